@@ -19,7 +19,7 @@ use Rattle.halfbrown.specs.Costs.{insert_cost, KeyHomesApart, search_cost}
 use Rattle.halfbrown.specs.Lookup.{ReadsMatch, IsMatchCost}
 use Rattle.halfbrown.specs.Pairs.{holds}
 use Rattle.halfbrown.proofs.lemmas.pairs.Indices.{found_where_held}
-use Rattle.halfbrown.specs.State.{State, make_state, contents_of}
+use Rattle.halfbrown.specs.State.{State, make_state}
 use Rattle.test_support.specs.declared.builders.Rule.{Rule}
 use Rattle.test_support.specs.declared.builders.Counting.{Counting}
 use Rattle.test_support.specs.Hashes.{hash_by, shifted}
@@ -108,7 +108,7 @@ module _ (rule : Rule) (held : List (ℕ × ℕ)) (capacity : ℕ) (k : ℕ) whe
     -- the parts of the state that costs depend on, from those that it has to those of the table
     cost_is : key_search_cost eqb builder_hash m k ≡ table_cost (is_some (index_of (eqb k) (keys_of held)))
     cost_is i = key_search_cost eqb (λ b. number_hash (table.builder i))
-        (make_state (table.form i) (table.pairs i) (table.capacity i) m.builder (contents_of m)) k
+        (make_state m (table.form i) (table.pairs i) (table.capacity i) m.builder) k
 
     found_is : holds eqb held k ≡ true → is_some (index_of (eqb k) (keys_of m.pairs)) ≡ true
     found_is present = found_where_held (eqb k) m.pairs ∙ ap (λ ps. holds eqb ps k) table.pairs ∙ present
@@ -143,7 +143,7 @@ module _ (rule : Rule) (held : List (ℕ × ℕ)) (capacity : ℕ) (k : ℕ) whe
     insert_cost_is : insert_cost 0 eqb builder_hash m k true
         ≡ table_insert_cost (is_some (index_of (eqb k) (keys_of held))) (holds eqb held k)
     insert_cost_is i = insert_cost 0 eqb (λ b. number_hash (table.builder i))
-        (make_state (table.form i) (table.pairs i) (table.capacity i) m.builder (contents_of m)) k true
+        (make_state m (table.form i) (table.pairs i) (table.capacity i) m.builder) k true
 
     -- a new key that is granted: each key of its hash is compared, its probe is read to the end, and another one after growth
     pub inserting : (before after : Work) → IsInsertCost 0 eqb builder_hash m k true before after → holds eqb held k ≡ false

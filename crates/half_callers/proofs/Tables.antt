@@ -12,7 +12,7 @@ use Rattle.half_store.specs.Capacity.{capacity_of, more_buckets, least_buckets, 
 use Rattle.halfbrown.specs.Growth.{is_full, is_vec_after, insert_needs, reserve_needs, capacity_after, IsReserved}
 use Rattle.halfbrown.specs.Lookup.{IsAbsent}
 use Rattle.halfbrown.specs.Pairs.{holds, put, take_out}
-use Rattle.halfbrown.specs.State.{State, WithPairs, make_state, contents_of}
+use Rattle.halfbrown.specs.State.{State, WithPairs, make_state}
 use Rattle.halfbrown.proofs.lemmas.pairs.Indices.{NonePasses, none_at, absent_of_none}
 use Rattle.test_support.specs.declared.builders.Rule.{Rule}
 use Rattle.test_support.specs.declared.builders.Counting.{Counting}
@@ -153,7 +153,7 @@ module _ (rule : Rule) (held : List (ℕ × ℕ)) (capacity : ℕ) (k : ℕ) (ol
   table_reserved additional less reserved =
       let total = length held + additional in
       let needs : reserve_needs 0 old additional ≡ (if nat_lt capacity total then Some total else None) =
-      λ i. reserve_needs 0 (make_state (table.form i) (table.pairs i) (table.capacity i) old.builder (contents_of old)) additional in
+      λ i. reserve_needs 0 (make_state old (table.form i) (table.pairs i) (table.capacity i) old.builder) additional in
       let needed = needs ∙ ap (λ b. if b then Some total else None) less in
       record {
         form = reserved.granted.form ∙ table.form;

@@ -33,7 +33,7 @@ pub fn group<K: Eq + Hash + Copy, V: Copy>(
 {
     let mut groups = HashMap::new(alloc);
     for (key, value) in items {
-        groups.entry(*key)?.or_insert(Vec::new(alloc)).push(*value)?;
+        groups.entry(*key)?.or_default().push(*value)?;
     }
     Ok(groups)
 }

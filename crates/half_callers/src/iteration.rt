@@ -1,6 +1,7 @@
 //! What callers build on iteration, proved from its public contracts alone: sums and counts of what is held, a list, and values
 //! that are all written.
-ghost use Rattle.std.specs.Prelude.{◌≡◌, ◌+◌, ◌^◌, ◌<◌, ◌==◌, count_by, filter, map, min, nat_lt, sum, IfOk};
+ghost use Rattle.std.specs.Prelude.{◌≡◌, ◌+◌, ◌^◌, ◌<◌, ◌==◌, count_by, filter, map, min, nat_le, nat_lt, sum, IfOk};
+ghost use Rattle.std.specs.List.{find, list_all};
 ghost use Rattle.std.specs.Map.{keys_of, values_of};
 
 use halfbrown::{Limit, LimitedHashMap};
@@ -37,6 +38,26 @@ pub fn votes_for<K: Eq + Hash, S: BuildHasher, L: Limit>(
     ensures { result ≡ count_by (λ vote. vote == candidate) (values_of votes.now.pairs) }
 {
     votes.values().filter(|vote| **vote == candidate).count()
+}
+
+/// Whether all amounts are at least this one.
+pub fn are_all_at_least<K: Eq + Hash, S: BuildHasher, L: Limit>(
+    ledger: &LimitedHashMap<K, u64, S, L>,
+    least: u64,
+) -> bool
+    ensures { result ≡ list_all (nat_le least) (values_of ledger.now.pairs) }
+{
+    ledger.values().all(|amount| *amount >= least)
+}
+
+/// The first amount that is at least this one.
+pub fn first_at_least<K: Eq + Hash, S: BuildHasher, L: Limit>(
+    ledger: &LimitedHashMap<K, u64, S, L>,
+    least: u64,
+) -> Option<u64>
+    ensures { result ≡ find (nat_le least) (values_of ledger.now.pairs) }
+{
+    ledger.values().copied().find(|amount| *amount >= least)
 }
 
 /// The keys of the amounts above the least, in order.

@@ -14,7 +14,6 @@ ghost use Rattle.std.specs.Map.Iter.{GivesInOrder, ShowsInOrder, deref};
 ghost use Rattle.std.specs.Set.{is_member, remove_key, IsUnion};
 ghost use Rattle.halfbrown.specs.CallerLoops.{add_key, add_keys, first_of_each};
 ghost use Rattle.halfbrown.specs.FromIter.{Gives};
-ghost use Rattle.halfbrown.specs.Iter.{column_left, ShowsColumnInOrder};
 ghost use Rattle.halfbrown.specs.Refusal.{refusal_of};
 ghost use Rattle.half_set.specs.Sets.{same_values, same_values_equiv, take_out_value, RemovesValue};
 
@@ -102,9 +101,9 @@ impl<T: Eq + Hash> HashSet<T> {
     /// }
     /// ```
     pub fn iter(&self) -> Keys<'_, T, ()>
-        ensures left { column_left result ≡ self.now }
+        ensures left { result ≡ self.now }
         ensures small { length self.now < 2 ^ 63 }
-        ensures runs { ShowsColumnInOrder T (Unit {0}) }
+        ensures runs { ShowsInOrder (deref {X = T}) }
     {
         self.map.keys()
     }

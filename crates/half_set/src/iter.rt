@@ -3,7 +3,6 @@ ghost use Rattle.std.specs.Prelude.{List, ◌++◌, length};
 ghost use Rattle.std.specs.Iterator.{at_most};
 ghost use Rattle.std.specs.Map.{keys_of};
 ghost use Rattle.std.specs.Map.Iter.{TakesFirst, deref};
-ghost use Rattle.halfbrown.specs.Iter.{column_left};
 ghost use Rattle.half_set.specs.Sets.{selected};
 
 use crate::HashSet;
@@ -48,7 +47,7 @@ pub struct Selected<'a, T: Eq + Hash> {
 impl<'a, T: Eq + Hash> Model for Selected<'a, T> {
     ghost Value = { List T };
 
-    ghost view = { λ s. selected T.eq s.members s.other.now (column_left s.values) };
+    ghost view = { λ s. selected T.eq s.members s.other.now s.values };
 }
 
 impl<'a, T: Eq + Hash> Iterator for Selected<'a, T> {
@@ -78,7 +77,7 @@ pub struct Union<'a, T: Eq + Hash> {
 impl<'a, T: Eq + Hash> Model for Union<'a, T> {
     ghost Value = { List T };
 
-    ghost view = { λ u. column_left u.first ++ u.then };
+    ghost view = { λ u. u.first ++ u.then };
 }
 
 impl<'a, T: Eq + Hash> Iterator for Union<'a, T> {

@@ -7,7 +7,7 @@ use Rattle.half_store.specs.Reach.{reach, filling_reach}
 use Rattle.half_store.specs.declared.vecmap.search.Scan.{Scan}
 use Rattle.half_store.specs.declared.vecmap.search.Scan.TheVariants.{ByKey}
 use Rattle.half_store.specs.Store.{StoreState, Found, Vacancy, IsPlaced, IsVacancy}
-use Rattle.half_store.specs.Table.{Contents, hit_reads_in, all_hit_reads_in}
+use Rattle.half_store.specs.Table.{hit_reads_in, all_hit_reads_in}
 use Rattle.std.specs.Borrow.{Bor}
 use Rattle.half_store.specs.Slots.{slots_from, slot_at}
 
@@ -22,27 +22,26 @@ pub record IsFirstMatch {K : Type 0} (returns : K → Bool → Type 0) (keys : L
   pub absent : IfNone result ((index : ℕ) → index < length keys → ReturnsAt returns keys index false)
 
 -- of the pairs in either form, where `has_hash` says that the pair at an index, with this key, has the searched hash
-module _ {K V : Type 0} (returns : K → Bool → Type 0) (is_vec : Bool) (pairs : List (K × V)) (has_hash : ℕ → K → Type 0) where
+module _ {K V : Type 0} (returns : K → Bool → Type 0) (s : StoreState K V) (has_hash : ℕ → K → Type 0) where
   -- the match accepts the key at this index: in a vector it is the first that it accepts, in a table it is one of the hash
   pub record Accepts (index : ℕ) : Type 0 where
-    pub within : index < length pairs
-    pub accepted : ReturnsAt returns (keys_of pairs) index true
-    pub first : is_vec ≡ true → (earlier : ℕ) → earlier < index → ReturnsAt returns (keys_of pairs) earlier false
-    pub hashed : is_vec ≡ false → (k : K) → slice_get (keys_of pairs) index ≡ Some k → has_hash index k
+    pub within : index < length s.pairs
+    pub accepted : ReturnsAt returns (keys_of s.pairs) index true
+    pub first : s.is_vec ≡ true → (earlier : ℕ) → earlier < index → ReturnsAt returns (keys_of s.pairs) earlier false
+    pub hashed : s.is_vec ≡ false → (k : K) → slice_get (keys_of s.pairs) index ≡ Some k → has_hash index k
 
   -- the match rejects each held key, in a table each of the hash
   pub record AcceptsNone : Type 0 where
-    pub rejected : (index : ℕ) (k : K) → slice_get (keys_of pairs) index ≡ Some k → (is_vec ≡ false → has_hash index k) → returns k false
+    pub rejected : (index : ℕ) (k : K) → slice_get (keys_of s.pairs) index ≡ Some k → (s.is_vec ≡ false → has_hash index k) → returns k false
 
   -- the search found the pair that is held here, or none, and where there is capacity a pair of the hash may be added here
-  abbrev pub SearchOutcome : ℕ → Contents → ℕ → Result Found Vacancy → Type 0
-  SearchOutcome capacity contents hash (Ok found) = Accepts found.index × IsPlaced is_vec contents found
-  SearchOutcome capacity contents hash (Err vacancy) = AcceptsNone × (0 < capacity → IsVacancy is_vec contents hash vacancy)
+  abbrev pub SearchOutcome : ℕ → Result Found Vacancy → Type 0
+  SearchOutcome hash (Ok found) = Accepts found.index × IsPlaced s found
+  SearchOutcome hash (Err vacancy) = AcceptsNone × (0 < s.capacity → IsVacancy s hash vacancy)
 
 -- a search of a store by the match under this hash
 abbrev pub StoreSearch : {K V : Type 0} → (K → Bool → Type 0) → StoreState K V → ℕ → Result Found Vacancy → Type 0
-StoreSearch returns s hash =
-    SearchOutcome returns s.is_vec s.pairs (λ index k. slice_get s.hashes index ≡ Some hash) s.capacity s.contents hash
+StoreSearch returns s hash = SearchOutcome returns s (λ index k. slice_get s.table.hashes index ≡ Some hash) hash
 
 -- the index that a search found
 abbrev pub found_index : Result Found Vacancy → Option ℕ
@@ -61,11 +60,11 @@ pub record ComparesInOrder (scan : Scan) (found : Option ℕ) (len : ℕ) (befor
 -- what a search of a store under this hash cost that found this index, or none; of a table it also says what such searches of all pairs read
 pub record IsStoreSearchCost {K V : Type 0} (s : StoreState K V) (hash : ℕ) (scan : Scan) (index : Option ℕ) (before after : Work) : Type 0 where
   pub vector : s.is_vec ≡ true → ComparesInOrder scan index (length s.pairs) before after
-  pub found : s.is_vec ≡ false → IfSome index (λ _. IsTableHitCost s.hashes (buckets_of s.capacity) hash before after)
-  pub hit : s.is_vec ≡ false → IfSome index (λ at. after.looked ≡ before.looked + hit_reads_in s.contents at)
-  pub hits : s.is_vec ≡ false → all_hit_reads_in s.contents (length s.hashes) ≡ filling_reach (buckets_of s.capacity) s.hashes
-  pub missing : s.is_vec ≡ false → IfNone index (after ≡ work_after_missing s.hashes (buckets_of s.capacity) hash before)
-  pub short : s.is_vec ≡ false → reach s.hashes (buckets_of s.capacity) hash ≤ length s.hashes + 1
+  pub found : s.is_vec ≡ false → IfSome index (λ _. IsTableHitCost s.table.hashes (buckets_of s.capacity) hash before after)
+  pub hit : s.is_vec ≡ false → IfSome index (λ at. after.looked ≡ before.looked + hit_reads_in s.table at)
+  pub hits : s.is_vec ≡ false → all_hit_reads_in s.table (length s.table.hashes) ≡ filling_reach (buckets_of s.capacity) s.table.hashes
+  pub missing : s.is_vec ≡ false → IfNone index (after ≡ work_after_missing s.table.hashes (buckets_of s.capacity) hash before)
+  pub short : s.is_vec ≡ false → reach s.table.hashes (buckets_of s.capacity) hash ≤ length s.table.hashes + 1
 
 -- each of these keys
 abbrev pub CallableOnKeys : {K : Type 0} → (Bor K → Type 0) → List K → Type 0

@@ -9,25 +9,24 @@ pub use Rattle.half_store.specs.declared.store.find.Vacancy.{Vacancy}
 use Rattle.half_store.specs.Capacity.{capacity_of, least_table_capacity, least_capacity, capped, capacity_needed, capacity_after, IsFormCapacity, is_vec_for, is_vec_shrunk, shrunk_capacity}
 use Rattle.half_store.specs.Refusal.{Refusal, refusal_of, IsRefusal, IsGrantable}
 use Rattle.half_store.specs.Columns.{ColumnsState}
-use Rattle.half_store.specs.Table.{TableState, Contents, table_contents, no_contents, contents_code, with_hash_in, IsTableVacancy, IsTablePlace}
+use Rattle.half_store.specs.Table.{TableState, state_of_words, table_code, with_hash_in, IsTableVacancy, IsTablePlace}
 use base.Stored.{Coded, coded×, coded_list, coded_ℕ, coded_bool, coded_via}
 
--- the form, the pairs in order, the capacity, and, in a table alone, the stored hashes by entry index and what the buckets contain
+-- the form, the pairs in order, the capacity, and the table over them; a vector's has neither hashes nor buckets
 pub record StoreState (K V : Type 0) : Type 0 where
   pub is_vec : Bool
   pub pairs : List (K × V)
   pub capacity : ℕ
-  pub hashes : List ℕ
-  pub contents : Contents
+  pub table : TableState
 
 module _ {K V : Type 0} where
   -- a vector of these columns
   abbrev pub vector_of : ColumnsState K V → StoreState K V
-  vector_of columns = record { is_vec = true; pairs = columns.pairs; capacity = columns.capacity; hashes = []; contents = no_contents }
+  vector_of columns = record { is_vec = true; pairs = columns.pairs; capacity = columns.capacity; table = state_of_words [] [] }
 
   -- a table over these columns
   abbrev pub table_of : ColumnsState K V → TableState → StoreState K V
-  table_of columns t = record { is_vec = false; pairs = columns.pairs; capacity = capacity_of t.buckets; hashes = t.hashes; contents = table_contents t }
+  table_of columns t = record { is_vec = false; pairs = columns.pairs; capacity = capacity_of t.buckets; table = t }
 
   -- columns without a table are a vector; a table stands in a block of its own
   abbrev pub store_of : ColumnsState K V → Option (Box TableState) → StoreState K V
@@ -48,7 +47,7 @@ module _ {K V : Type 0} where
     pub form : new.is_vec ≡ old.is_vec
     pub pairs : AllZip (λ p q. key_clone p.0 q.0 × value_clone p.1 q.1) old.pairs new.pairs
     pub capacity : new.capacity ≡ (if old.is_vec then length old.pairs else old.capacity)
-    pub hashes : new.hashes ≡ old.hashes
+    pub hashes : new.table.hashes ≡ old.table.hashes
 
   -- the form and the capacity stay
   pub record SameFormAndCapacity (old new : StoreState K V) : Type 0 where
@@ -64,7 +63,7 @@ module _ {K V : Type 0} (limit needed : ℕ) where
   pub record IsMadeFor (s : StoreState K V) : Type 0 where
     pub form : s.is_vec ≡ is_vec_for limit needed
     pub pairs : s.pairs ≡ []
-    pub hashes : s.hashes ≡ []
+    pub hashes : s.table.hashes ≡ []
     pub capacity : s.capacity ≡ least_capacity s.is_vec needed
     pub allowed : IsFormCapacity limit s.is_vec s.capacity
 
@@ -101,7 +100,7 @@ module _ {K V : Type 0} (limit : ℕ) (old new : StoreState K V) where
   pub record StoreReserves (additional : ℕ) (result : Result (Unit {0}) Refusal) : Type 0 where
     pub pairs : new.pairs ≡ old.pairs
     pub form : new.is_vec ≡ old.is_vec
-    pub hashes : new.hashes ≡ old.hashes
+    pub hashes : new.table.hashes ≡ old.table.hashes
     pub capacity : OnOk result (new.capacity ≡ capacity_after limit old.is_vec old.capacity (reserve_needs limit old additional))
     pub enough : OnOk result (reserve_wanted limit old additional ≤ new.capacity)
     pub unneeded : OnOk result (reserve_wanted limit old additional ≤ old.capacity → new ≡ old)
@@ -115,7 +114,7 @@ module _ {K V : Type 0} (limit : ℕ) (old new : StoreState K V) where
     pub pairs : new.pairs ≡ old.pairs
     pub form : OnOk result (new.is_vec ≡ is_vec_shrunk limit old.is_vec (length old.pairs))
     pub capacity : OnOk result (new.capacity ≡ shrunk_capacity limit old.is_vec (length old.pairs))
-    pub hashes : new.is_vec ≡ false → new.hashes ≡ old.hashes
+    pub hashes : new.is_vec ≡ false → new.table.hashes ≡ old.table.hashes
     pub fits : OnOk result (length old.pairs ≤ new.capacity)
     pub allowed : IsFormCapacity limit old.is_vec old.capacity → length old.pairs ≤ old.capacity → IsFormCapacity limit new.is_vec new.capacity
     pub err : OnErr result (new ≡ old)
@@ -123,24 +122,20 @@ module _ {K V : Type 0} (limit : ℕ) (old new : StoreState K V) where
     pub less : OnErr result (shrunk_capacity limit old.is_vec (length old.pairs) < old.capacity)
 
 -- a pair of this hash may be added here: in a table at the empty bucket where an insertion probe for it ends; a vector looks at neither
-abbrev pub IsVacancy : Bool → Contents → ℕ → Vacancy → Type 0
-IsVacancy is_vec contents hash vacancy = is_vec ≡ false → (vacancy.hash ≡ hash) × IsTableVacancy contents hash vacancy.bucket
+abbrev pub IsVacancy : {K V : Type 0} → StoreState K V → ℕ → Vacancy → Type 0
+IsVacancy s hash vacancy = s.is_vec ≡ false → (vacancy.hash ≡ hash) × IsTableVacancy s.table hash vacancy.bucket
 
 -- a pair is held here: in a table in this bucket; a vector looks at none
-abbrev pub IsPlaced : Bool → Contents → Found → Type 0
-IsPlaced is_vec contents found = is_vec ≡ false → IsTablePlace contents found.index found.bucket
-
--- what the buckets contain once a pair is added here
-abbrev pub filled : Bool → Contents → Vacancy → Contents
-filled is_vec contents vacancy = if is_vec then contents else with_hash_in contents vacancy.hash vacancy.bucket
+abbrev pub IsPlaced : {K V : Type 0} → StoreState K V → Found → Type 0
+IsPlaced s found = s.is_vec ≡ false → IsTablePlace s.table found.index found.bucket
 
 -- the store with one pair more, which is added here
 abbrev pub store_pushed : {K V : Type 0} → StoreState K V → K → V → Vacancy → StoreState K V
 store_pushed s k v vacancy =
-    let hashes = if s.is_vec then s.hashes else s.hashes ++ vacancy.hash ∷ [] in
-    record s { pairs = s.pairs ++ (k, v) ∷ []; hashes = hashes; contents = filled s.is_vec s.contents vacancy }
+    let table = if s.is_vec then s.table else with_hash_in s.table vacancy.hash vacancy.bucket in
+    record s { pairs = s.pairs ++ (k, v) ∷ []; table = table }
 
 abbrev pub store_code : {K V : Type 0} → Coded K → Coded V → Coded (StoreState K V)
-store_code k v = coded_via (coded× coded_bool (coded× (coded_list (coded× k v)) (coded× coded_ℕ (coded× (coded_list coded_ℕ) contents_code))))
-    (λ s. (s.is_vec, (s.pairs, (s.capacity, (s.hashes, s.contents)))))
-    (λ a b e i. record { is_vec = (e i).0; pairs = (e i).1.0; capacity = (e i).1.1.0; hashes = (e i).1.1.1.0; contents = (e i).1.1.1.1 })
+store_code k v = coded_via (coded× coded_bool (coded× (coded_list (coded× k v)) (coded× coded_ℕ table_code)))
+    (λ s. (s.is_vec, (s.pairs, (s.capacity, s.table))))
+    (λ a b e i. record { is_vec = (e i).0; pairs = (e i).1.0; capacity = (e i).1.1.0; table = (e i).1.1.1 })

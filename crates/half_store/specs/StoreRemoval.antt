@@ -26,7 +26,7 @@ module _ {K V : Type 0} (old new : StoreState K V) where
   pub record StoreSwapRemoves (index : ℕ) (pair : K × V) : Type 0 where
     pub removed : slice_get old.pairs index ≡ Some pair
     pub pairs : new.pairs ≡ swap_remove_at old.pairs index
-    pub hashes : old.is_vec ≡ false → new.hashes ≡ swap_remove_at old.hashes index
+    pub hashes : old.is_vec ≡ false → new.table.hashes ≡ swap_remove_at old.table.hashes index
     pub form : SameFormAndCapacity old new
 
 -- the word of a bucket once the pair at this index is the last of `pairs`, and each pair behind it has the index before its own
@@ -42,5 +42,5 @@ pub record MovesToEnd (pairs index : ℕ) (old new : List ℕ) : Type 0 where
 pub record StoreShiftRemoves {K V : Type 0} (old new : StoreState K V) (index : ℕ) (pair : K × V) : Type 0 where
   pub removed : slice_get old.pairs index ≡ Some pair
   pub pairs : new.pairs ≡ remove old.pairs index
-  pub hashes : old.is_vec ≡ false → new.hashes ≡ remove old.hashes index
+  pub hashes : old.is_vec ≡ false → new.table.hashes ≡ remove old.table.hashes index
   pub form : SameFormAndCapacity old new

@@ -17,47 +17,32 @@ pub record TableState : Type 0 where
   pub buckets : ℕ
   words : List ℕ
 
+abbrev pub state_of_words : List ℕ → List ℕ → TableState
+state_of_words hashes words = record { hashes = hashes; buckets = length words; words = words }
+
 -- the hash stored for each bucket of the table
 abbrev pub table_slots : TableState → List (Option ℕ)
 table_slots t = slots_from t.hashes t.words
 
--- what the buckets contain, for callers that keep such a fact and hand it back: nobody else can read it
-pub record Contents : Type 0 where
-  hashes : List ℕ
-  words : List ℕ
-
-abbrev pub table_contents : TableState → Contents
-table_contents t = record { hashes = t.hashes; words = t.words }
-
--- no buckets
-abbrev pub no_contents : Contents
-no_contents = record { hashes = []; words = [] }
-
 -- an insertion probe for the hash ends at this bucket
-abbrev pub IsTableVacancy : Contents → ℕ → ℕ → Type 0
-IsTableVacancy c hash bucket = IsSlotVacancy (slots_from c.hashes c.words) hash bucket
+abbrev pub IsTableVacancy : TableState → ℕ → ℕ → Type 0
+IsTableVacancy t hash bucket = IsSlotVacancy (table_slots t) hash bucket
 
 -- the pair of this entry index stands in this bucket
-abbrev pub IsTablePlace : Contents → ℕ → ℕ → Type 0
-IsTablePlace c index bucket = slice_index c.words bucket ≡ index + 1
+abbrev pub IsTablePlace : TableState → ℕ → ℕ → Type 0
+IsTablePlace t index bucket = slice_index t.words bucket ≡ index + 1
 
--- what the buckets contain once a pair of the hash is added in this bucket
-abbrev pub with_hash_in : Contents → ℕ → ℕ → Contents
-with_hash_in c hash bucket = record { hashes = c.hashes ++ hash ∷ []; words = slice_set c.words bucket (suc (length c.hashes)) }
+-- the table once a pair of the hash is added in this bucket
+abbrev pub with_hash_in : TableState → ℕ → ℕ → TableState
+with_hash_in t hash bucket = state_of_words (t.hashes ++ hash ∷ []) (slice_set t.words bucket (suc (length t.hashes)))
 
 -- how many buckets a search reads that finds the pair of this entry index: from the home of its hash up to and with its bucket
-unfoldable pub hit_reads_in : Contents → ℕ → ℕ
-hit_reads_in c index = probe_reads (length c.words) (slice_index c.hashes index) (bucket_of c.words index)
+unfoldable pub hit_reads_in : TableState → ℕ → ℕ
+hit_reads_in t index = probe_reads t.buckets (slice_index t.hashes index) (bucket_of t.words index)
 
 -- how many the searches for the pairs of the first entry indices read, one each
-unfoldable pub all_hit_reads_in : Contents → ℕ → ℕ
-all_hit_reads_in c pairs = sum_below pairs (λ index. hit_reads_in c index)
-
-abbrev pub contents_code : Coded Contents
-contents_code = coded_via (coded× (coded_list coded_ℕ) (coded_list coded_ℕ)) (λ c. (c.hashes, c.words)) (λ a b e i. record { hashes = (e i).0; words = (e i).1 })
-
-abbrev pub state_of_words : List ℕ → List ℕ → TableState
-state_of_words hashes words = record { hashes = hashes; buckets = length words; words = words }
+unfoldable pub all_hit_reads_in : TableState → ℕ → ℕ
+all_hit_reads_in t pairs = sum_below pairs (λ index. hit_reads_in t index)
 
 abbrev pub table_code : Coded TableState
 table_code =
@@ -108,14 +93,14 @@ pub record IsTableMemory {Z : Type 0} (hashes : Vec ℕ Z) (words : WordMemory) 
 -- ended, if there are buckets. The searches for all pairs, one each, read what insertions of their hashes read (`hits`)
 pub record TableSearch (returns : ℕ → Bool → Type 0) (t : TableState) (hash : ℕ) (result : Result (ℕ × ℕ) ℕ) (old new : Work) : Type 0 where
   pub found : IfOk result (λ pair. slice_get t.hashes pair.0 ≡ Some hash)
-  pub at : IfOk result (λ pair. IsTablePlace (table_contents t) pair.0 pair.1)
+  pub at : IfOk result (λ pair. IsTablePlace t pair.0 pair.1)
   pub accepted : IfOk result (λ pair. returns pair.0 true)
   pub rejected : OnErr result ((index : ℕ) → slice_get t.hashes index ≡ Some hash → returns index false)
-  pub vacancy : IfErr result (λ bucket. 0 < t.buckets → IsTableVacancy (table_contents t) hash bucket)
+  pub vacancy : IfErr result (λ bucket. 0 < t.buckets → IsTableVacancy t hash bucket)
   pub missing_cost : OnErr result (new ≡ work_after_missing t.hashes t.buckets hash old)
   pub found_cost : IfOk result (λ pair. IsTableHitCost t.hashes t.buckets hash old new)
-  pub hit : IfOk result (λ pair. new.looked ≡ old.looked + hit_reads_in (table_contents t) pair.0)
-  pub hits : all_hit_reads_in (table_contents t) (length t.hashes) ≡ filling_reach t.buckets t.hashes
+  pub hit : IfOk result (λ pair. new.looked ≡ old.looked + hit_reads_in t pair.0)
+  pub hits : all_hit_reads_in t (length t.hashes) ≡ filling_reach t.buckets t.hashes
   pub short : reach t.hashes t.buckets hash ≤ length t.hashes + 1
   pub buckets : t.buckets ≡ buckets_of (capacity_of t.buckets)
 

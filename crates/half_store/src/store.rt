@@ -77,7 +77,7 @@ impl<K, V> Store<K, V> {
         K: Drop,
         V: Drop,
         ensures pairs { self.new.pairs ≡ [] }
-        ensures hashes { self.new.hashes ≡ [] }
+        ensures hashes { self.new.table.hashes ≡ [] }
         ensures form { SameFormAndCapacity self.old self.new }
     {
         if let Some(table) = &mut self.table {

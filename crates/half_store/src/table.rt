@@ -11,7 +11,7 @@ ghost use Rattle.half_store.specs.Search.{CallableOnHash, ReturnsAt};
 ghost use Rattle.half_store.specs.Reach.{reach};
 ghost use Rattle.half_store.specs.Capacity.{capacity_of, IsBucketCount, least_table_capacity, buckets_of};
 ghost use Rattle.half_store.specs.Work.{looked_more, probe_reads, ReadsWithin, removal_reads_left};
-ghost use Rattle.half_store.specs.Table.{table_contents, with_hash_in, IsTablePlace, IsTableVacancy, TableSearch, RemovesFromTable};
+ghost use Rattle.half_store.specs.Table.{with_hash_in, IsTablePlace, IsTableVacancy, TableSearch, RemovesFromTable};
 
 mod deletion;
 pub mod memory;
@@ -109,7 +109,7 @@ impl Table {
     #[inline(always)]
     pub fn insertion_probe(&self, hash: u64, tally: &mut Tally) -> usize
         requires { 0 < self.now.buckets }
-        ensures vacancy { IsTableVacancy (table_contents self.now) hash result }
+        ensures vacancy { IsTableVacancy self.now hash result }
         ensures cost { tally.new ≡ looked_more (reach self.now.hashes self.now.buckets hash)
             tally.old }
         ensures buckets { self.now.buckets ≡ buckets_of (capacity_of self.now.buckets) }
@@ -125,12 +125,10 @@ impl Table {
     #[inline(always)]
     pub fn add_at(&mut self, hash: u64, bucket: usize)
         requires capacity { length self.old.hashes < capacity_of self.old.buckets }
-        requires vacancy { IsTableVacancy (table_contents self.old) hash bucket }
-        ensures hashes { self.new.hashes ≡ self.old.hashes ++ hash ∷ [] }
+        requires vacancy { IsTableVacancy self.old hash bucket }
+        ensures after { self.new ≡ with_hash_in self.old hash bucket }
         ensures buckets { self.new.buckets ≡ self.old.buckets }
-        ensures contents { table_contents self.new
-            ≡ with_hash_in (table_contents self.old) hash bucket }
-        ensures at { IsTablePlace (table_contents self.new) (length self.old.hashes) bucket }
+        ensures at { IsTablePlace self.new (length self.old.hashes) bucket }
     {
         let word = self.len() + 1;
         self.buckets.set_word(bucket, word);
@@ -157,7 +155,7 @@ impl Table {
     #[inline(always)]
     pub fn bucket_of(&self, index: usize, tally: &mut Tally) -> usize
         requires { index < length self.now.hashes }
-        ensures at { IsTablePlace (table_contents self.now) index result }
+        ensures at { IsTablePlace self.now index result }
         ensures cost { tally.new ≡ looked_more (probe_reads self.now.buckets
             (slice_index self.now.hashes index) result) tally.old }
         ensures near { probe_reads self.now.buckets (slice_index self.now.hashes index) result
@@ -175,7 +173,7 @@ impl Table {
     #[inline(always)]
     pub fn remove_at(&mut self, index: usize, bucket: usize, tally: &mut Tally) -> u64
         requires within { index < length self.old.hashes }
-        requires at { IsTablePlace (table_contents self.old) index bucket }
+        requires at { IsTablePlace self.old index bucket }
         ensures removes { RemovesFromTable self.old index self.new result }
         ensures cost { ReadsWithin (removal_reads_left self.old.hashes self.old.buckets index bucket)
             tally.old tally.new }

@@ -28,9 +28,9 @@ pub use Rattle.halfbrown.specs.Equality.{holds_pair}
 pub use Rattle.halfbrown.specs.FromIter.{Gives}
 pub use Rattle.halfbrown.specs.Growth.{insert_needs, is_full}
 pub use Rattle.halfbrown.specs.Insertion.{Prepares}
-pub use Rattle.halfbrown.specs.Layout.{state_in, IsMapInvariant}
+pub use Rattle.halfbrown.specs.Layout.{IsMapInvariant}
 pub use Rattle.halfbrown.specs.Lookup.{IsIndexOf, IsAbsent, KeySearch}
 pub use Rattle.halfbrown.specs.Pairs.{value_of, holds, holds_by, put, set_value, take_out_by}
 pub use Rattle.halfbrown.specs.Updates.{Removes, HasPut, HasRemovedBy}
 pub use Rattle.halfbrown.specs.Run.{Step}
-pub use Rattle.halfbrown.specs.State.{State, contents_of, IsTableCapacity, map_with_pairs, WithPairs, IsValid}
+pub use Rattle.halfbrown.specs.State.{State, state_in, store_in, IsPlacedIn, IsVacancyIn, IsTableCapacity, map_with_pairs, WithPairs, IsValid}

@@ -7,7 +7,7 @@ use Rattle.half_store.specs.Capacity.{buckets_of, least_table_capacity}
 use Rattle.half_store.specs.Table.{hit_reads_in, all_hit_reads_in}
 use Rattle.half_store.specs.Work.{Work, first_match_cost}
 use Rattle.halfbrown.specs.CostRanges.{Cost, Range, GrewBy, no_cost, plus_asked, plus_looked, unless_refused, exactly, between}
-use Rattle.halfbrown.specs.State.{State, make_state, contents_of}
+use Rattle.halfbrown.specs.State.{State, make_state, store_in}
 use Rattle.halfbrown.specs.Pairs.{keys_of, index_of, holds}
 use Rattle.halfbrown.specs.Growth.{is_full, is_vec_after}
 
@@ -50,11 +50,11 @@ module _ {K V : Type 0} (hash : K → ℕ) where
 
 -- how many buckets of a table a search reads that finds the pair at this index
 abbrev pub hit_reads : {K V S : Type 0} → State K V S → ℕ → ℕ
-hit_reads m index = hit_reads_in (contents_of m) index
+hit_reads m index = hit_reads_in (store_in m).table index
 
 -- how many the searches read in all that find its pairs, one search for each
 abbrev pub all_hit_reads : {K V S : Type 0} → State K V S → ℕ
-all_hit_reads m = all_hit_reads_in (contents_of m) (length m.pairs)
+all_hit_reads m = all_hit_reads_in (store_in m).table (length m.pairs)
 
 -- how many the insertions read in all that put these pairs into an empty table of this capacity
 abbrev pub filling_reads : {K V : Type 0} → (K → ℕ) → ℕ → List (K × V) → ℕ
@@ -127,13 +127,13 @@ module _ {K V S : Type 0} (limit : ℕ) where
   abbrev pub capacity_after_growth : State K V S → ℕ
   capacity_after_growth m = if addition_grows m then least_table_capacity (length m.pairs + 1) else capacity_after_switch m
 
-  -- the map once a granted switch is made, as far as a cost depends on it: not on the contents of its buckets
+  -- the map once a granted switch is made, as far as a cost depends on it: not on its table
   abbrev pub switched : State K V S → State K V S
-  switched m = make_state (is_vec_after limit m) m.pairs (capacity_after_switch m) m.builder (contents_of m)
+  switched m = make_state m (is_vec_after limit m) m.pairs (capacity_after_switch m) m.builder
 
   -- the same once the capacity is enough for one pair more
   abbrev pub grown : State K V S → State K V S
-  grown m = make_state (is_vec_after limit m) m.pairs (capacity_after_growth m) m.builder (contents_of m)
+  grown m = make_state m (is_vec_after limit m) m.pairs (capacity_after_growth m) m.builder
 
   module _ (eq : K → K → Bool) (hash : S → K → ℕ) where
     -- what an insertion of k costs: the switch hashes each key, one search follows in the form that it left, and, where a new key made

@@ -7,8 +7,7 @@ use Rattle.halfbrown.specs.Ghosts.{EqGhosts, HashGhosts, HasherGhosts, LimitGhos
 use Rattle.half_store.specs.declared.store.drain.IntoStore as taken
 use Rattle.half_store.specs.Store.{StoreState}
 use Rattle.halfbrown.specs.declared.drain.Drain.{Drain}
-use Rattle.halfbrown.specs.Layout.{state_in}
-use Rattle.halfbrown.specs.State.{State, map_with_pairs}
+use Rattle.halfbrown.specs.State.{State, map_with_pairs, state_in}
 
 -- the map as it is once the `Drain` is dropped: its own store again, with no pair
 abbrev pub map_after : {K V S L P H : Type 0} {e : EqGhosts K} {h : HashGhosts K} {b : HasherGhosts S K H} {l : LimitGhosts L} {p : taken.Ghosts P K V}

@@ -4,7 +4,6 @@ use Rattle.std.specs.Prelude.{◌≡◌, ℕ, Bool, false, Option, None, Some, R
 use Rattle.std.specs.Borrow.{MutBor, Fml, RattleType, follows, follows_so, RestsIfErr, RestsIfNone}
 use Rattle.halfbrown.specs.Ghosts.{EqGhosts, HashGhosts, HasherGhosts, LimitGhosts}
 use Rattle.half_store.specs.PairLists.{length-set_value_at}
-use Rattle.half_store.specs.Store.{IsPlaced}
 use Rattle.halfbrown.specs.declared.entry.Entry.{Entry}
 use Rattle.halfbrown.specs.declared.entry.OccupiedEntry.{OccupiedEntry}
 use Rattle.halfbrown.specs.declared.entry.VacantEntry.{VacantEntry}
@@ -15,7 +14,7 @@ use Rattle.halfbrown.specs.declared.refused.RefusedKey.{RefusedKey}
 use Rattle.halfbrown.specs.EntryView.{EntryView, map_of, is_occupied, entry_key, with_value, IsEntryOf, PutsThroughEntry}
 use Rattle.halfbrown.specs.Growth.{insert_needs, IsRefusal}
 use Rattle.halfbrown.specs.Insertion.{Prepares}
-use Rattle.halfbrown.specs.State.{State, IsValid, contents_of}
+use Rattle.halfbrown.specs.State.{State, IsValid, IsPlacedIn}
 use Rattle.std.proofs.Common.{sym, subst}
 use mathlib.Core.Option.{none}
 use mir.Syntax.{named}
@@ -75,7 +74,7 @@ module _ {K V S L H : Type 0} {e : EqGhosts K} {h : HashGhosts K} {b : HasherGho
   still_within o value = subst (λ n. o.index < n) (sym (length-set_value_at o.map.now.pairs o.index value)) o.within
 
   pub still_placed : (o : OccupiedEntry K V S L H e h b l) (value : V)
-      → IsPlaced (with_value (occupied o) value).is_vec (contents_of (with_value (occupied o) value)) (record { index = o.index; bucket = o.bucket })
+      → IsPlacedIn (with_value (occupied o) value) (record { index = o.index; bucket = o.bucket })
   unfolding with_value
   still_placed o value = o.placed
 

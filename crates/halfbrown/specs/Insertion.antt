@@ -1,13 +1,13 @@
 -- What an insertion does or hands back, and the capacity for one pair more that it makes first.
-use Rattle.std.specs.Prelude.{◌≡◌, ℕ, Bool, Option, Some, Result, OnOk, OnErr, IfOk, IfErr, ◌+◌, ◌<◌, nat_lt, [], ◌∷◌, ◌++◌, length, if◌then◌else◌}
+use Rattle.std.specs.Prelude.{◌≡◌, ℕ, Bool, Option, Some, Result, OnOk, OnErr, IfOk, IfErr, ◌+◌, ◌<◌, nat_lt, length, if◌then◌else◌}
 use Rattle.std.specs.Result.{result_map_both}
 use Rattle.halfbrown.specs.declared.refused.Refused.{Refused}
 use Rattle.halfbrown.specs.Growth.{is_vec_after, insert_needs, new_key_needs, Refusal, IsRefusal, IsGrantable, capacity_after, Grants}
 use Rattle.halfbrown.specs.Pairs.{keys_of, index_of, put, value_of}
-use Rattle.halfbrown.specs.State.{State, IsValid, make_state, contents_of}
+use Rattle.halfbrown.specs.State.{State, IsValid, state_in, store_in, IsPlacedIn, IsVacancyIn}
 use Rattle.halfbrown.specs.Updates.{HasPut}
 use Rattle.half_store.specs.Capacity.{least_table_capacity}
-use Rattle.half_store.specs.Store.{IsPlaced, IsVacancy, filled}
+use Rattle.half_store.specs.Store.{store_pushed}
 use Rattle.halfbrown.specs.declared.map.prepare.Place.{Place}
 use Rattle.halfbrown.specs.declared.map.prepare.Place.TheVariants.{Held, Vacant}
 use Rattle.halfbrown.specs.Costs.{probe_length}
@@ -53,7 +53,7 @@ module _ {K V S : Type 0} where
 module _ {K V S : Type 0} where
   -- the map with one pair more, which is added here
   abbrev pub pushed : State K V S → K → V → Vacancy → State K V S
-  pushed m k v vacancy = make_state m.is_vec (m.pairs ++ (k, v) ∷ []) m.capacity m.builder (filled m.is_vec (contents_of m) vacancy)
+  pushed m k v vacancy = state_in (store_pushed (store_in m) k v vacancy) m.builder
 
   -- the buckets that making capacity for a pair of this hash reads, whose vacancy is known: where the table grows, those of an insertion probe
   abbrev pub second_probe_reads : (K → ℕ) → State K V S → ℕ → Bool → ℕ
@@ -76,9 +76,9 @@ module _ {K V S : Type 0} where
     pub record MayInsertAt (m : State K V S) (k : K) (vacancy : Vacancy) : Type 0 where
       pub absent : IsAbsent (eq k) m.pairs
       pub capacity : length m.pairs < m.capacity
-      pub vacant : IsVacancy m.is_vec (contents_of m) (hash m.builder k) vacancy
+      pub vacant : IsVacancyIn m (hash m.builder k) vacancy
 
     -- an insertion of k needs no more: its pair is found, or a vacancy for one
     abbrev pub IsPreparedFor : State K V S → K → Place → Type 0
-    IsPreparedFor m k (Held found) = IsIndexOf (eq k) m.pairs found.index × IsPlaced m.is_vec (contents_of m) found
+    IsPreparedFor m k (Held found) = IsIndexOf (eq k) m.pairs found.index × IsPlacedIn m found
     IsPreparedFor m k (Vacant vacancy) = MayInsertAt m k vacancy

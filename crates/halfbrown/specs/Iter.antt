@@ -1,13 +1,12 @@
 -- What the iterators of a map have left, how they step, and what their runs show.
 use Rattle.std.specs.Prelude.{List, Option, zip}
 use Rattle.std.specs.Borrow.{Bor, GName, MutBor}
-use Rattle.std.specs.Iterator.{YieldsFirstBy, YieldsFirstRef}
-use Rattle.std.specs.Iterator.Runs.{EveryRun, ItemsMapTo, YieldsRefsInOrder}
+use Rattle.std.specs.Iterator.{YieldsFirstBy}
+use Rattle.std.specs.Iterator.Runs.{EveryRun, ItemsMapTo}
 use Rattle.std.specs.Map.{values_of}
 use Rattle.std.specs.Map.Iter.{deref_pair}
 use Rattle.std.specs.Slice.Iter as slice
 use Rattle.halfbrown.specs.declared.iter.Iter.{Iter}
-use Rattle.halfbrown.specs.declared.iter.column.Column.{Column}
 use Rattle.halfbrown.specs.declared.iter.iter_mut.IterMut.{IterMut}
 use Rattle.halfbrown.specs.declared.iter.values_mut.ValuesMut.{ValuesMut}
 
@@ -46,11 +45,3 @@ module _ (K V : Type 0) where
   pub record ShowsPairsInOrder : Type 0 where
     pub pairs : EveryRun (IterSteps {K = K} {V = V}) (λ p. ItemsMapTo p deref_pair (pairs_left p.from))
     pub values : EveryRun (IterSteps {K = K} {V = V}) (λ p. ItemsMapTo p (λ x. x.1.now) (values_of (pairs_left p.from)))
-
--- what a `Column` has left: the keys that a `Keys` has, or the values that a `Values` has
-abbrev pub column_left : {T O : Type 0} → Column T O → List T
-column_left s = slice.iter_rest s.items
-
--- calls of `next` of a `Column` give the first of what it had left, in order, and all of it once it returned none
-abbrev pub ShowsColumnInOrder : (T O : Type 0) → Type 0
-ShowsColumnInOrder T O = YieldsRefsInOrder (YieldsFirstRef column_left) (column_left {T = T} {O = O})

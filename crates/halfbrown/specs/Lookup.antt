@@ -1,11 +1,10 @@
 -- What a search in a map returns, for a key, or by a match on keys under a hash that was handed in.
 use Rattle.std.specs.Prelude.{◌≡◌, ℕ, ◌<◌, Bool, true, false, List, [], ◌∷◌, ◌++◌, length, slice_get, Option, None, Some, Result, Ok, Err, ◌+◌, is_some, option_and_then}
 use Rattle.std.specs.Map.{keys_of, values_of, lookup, lookup_entry}
-use Rattle.half_store.specs.Store.{IsPlaced, IsVacancy}
 pub use Rattle.half_store.specs.declared.store.find.Found.{Found}
 pub use Rattle.half_store.specs.declared.store.find.Vacancy.{Vacancy}
 use Rattle.halfbrown.specs.Pairs.{index_of, set_value_at, swap_remove_at, holds_by, set_value, put_by, take_out_by}
-use Rattle.halfbrown.specs.State.{State, contents_of}
+use Rattle.halfbrown.specs.State.{State, store_in, IsPlacedIn, IsVacancyIn}
 use Rattle.half_store.specs.Search.{Accepts, AcceptsNone, SearchOutcome}
 use Rattle.half_store.specs.Work.{Work, first_match_cost}
 use Rattle.halfbrown.specs.Costs.{IsSearchCost}
@@ -38,21 +37,21 @@ module _ {K V : Type 0} (test : K → Bool) (pairs : List (K × V)) where
 
 -- a search found the key that passes the test here, or none is held, and where there is capacity a pair of the hash may be added here
 abbrev pub KeySearch : {K V S : Type 0} → (K → Bool) → ℕ → State K V S → Result Found Vacancy → Type 0
-KeySearch test hash m (Ok found) = IsIndexOf test m.pairs found.index × IsPlaced m.is_vec (contents_of m) found
-KeySearch test hash m (Err vacancy) = IsAbsent test m.pairs × (0 < m.capacity → IsVacancy m.is_vec (contents_of m) hash vacancy)
+KeySearch test hash m (Ok found) = IsIndexOf test m.pairs found.index × IsPlacedIn m found
+KeySearch test hash m (Err vacancy) = IsAbsent test m.pairs × (0 < m.capacity → IsVacancyIn m hash vacancy)
 
 module _ {K V S : Type 0} (returns : K → Bool → Type 0) (hash : S → K → ℕ) (wanted : ℕ) (m : State K V S) where
   -- the match accepts the key at this index: in a vector it is the first that it accepts, in a table it is one of this hash
   abbrev pub IsMatch : ℕ → Type 0
-  IsMatch = Accepts returns m.is_vec m.pairs (λ index k. hash m.builder k ≡ wanted)
+  IsMatch = Accepts returns (store_in m) (λ index k. hash m.builder k ≡ wanted)
 
   -- the match refuses each held key, in a table each of this hash
   abbrev pub HasNoMatch : Type 0
-  HasNoMatch = AcceptsNone returns m.is_vec m.pairs (λ index k. hash m.builder k ≡ wanted)
+  HasNoMatch = AcceptsNone returns (store_in m) (λ index k. hash m.builder k ≡ wanted)
 
   -- a search by the match found the pair that is held here, or none, and where there is capacity a pair of the hash may be added here
   abbrev pub MatchSearch : Result Found Vacancy → Type 0
-  MatchSearch = SearchOutcome returns m.is_vec m.pairs (λ index k. hash m.builder k ≡ wanted) m.capacity (contents_of m) wanted
+  MatchSearch = SearchOutcome returns (store_in m) (λ index k. hash m.builder k ≡ wanted) wanted
 
   -- the search returned this pair, or none
   abbrev pub ReadsMatch : Option (K × V) → Type 0

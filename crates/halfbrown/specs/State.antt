@@ -3,32 +3,46 @@ use Rattle.std.specs.Prelude.{◌≡◌, ℕ, ◌<◌, ◌≤◌, Bool, true, fa
 pub use Rattle.std.specs.List.{IsDistinct}
 pub use Rattle.std.specs.Map.{keys_of}
 pub use Rattle.half_store.specs.Capacity.{IsTableCapacity}
-use Rattle.half_store.specs.Table.{Contents, contents_code}
-use base.Stored.{Coded, coded×, coded_list, coded_ℕ, coded_bool, coded_via}
+use Rattle.half_store.specs.Store.{StoreState, store_code, IsPlaced, IsVacancy}
+use Rattle.half_store.specs.declared.store.find.Found.{Found}
+use Rattle.half_store.specs.declared.store.find.Vacancy.{Vacancy}
+use Rattle.half_store.specs.Table.{TableState}
+use base.Stored.{Coded, coded×, coded_via}
 
--- the form, the pairs in order, the capacity, and the builder; what the buckets contain is private
+-- the form, the pairs in order, the capacity, and the builder; the table over the pairs is private
 pub record State (K V S : Type 0) : Type 0 where
   pub is_vec : Bool
   pub pairs : List (K × V)
   pub capacity : ℕ
   pub builder : S
-  contents : Contents
+  table : TableState
 
 module _ {K V S : Type 0} where
-  -- the state of these parts
-  abbrev pub make_state : Bool → List (K × V) → ℕ → S → Contents → State K V S
-  make_state is_vec pairs capacity builder contents =
-      record { is_vec = is_vec; pairs = pairs; capacity = capacity; builder = builder; contents = contents }
+  -- the state that a store and a builder make
+  abbrev pub state_in : StoreState K V → S → State K V S
+  state_in s builder = record { is_vec = s.is_vec; pairs = s.pairs; capacity = s.capacity; builder = builder; table = s.table }
 
-  -- what the buckets contain
-  abbrev pub contents_of : State K V S → Contents
-  contents_of m = m.contents
+  -- the store of a state
+  abbrev pub store_in : State K V S → StoreState K V
+  store_in m = record { is_vec = m.is_vec; pairs = m.pairs; capacity = m.capacity; table = m.table }
+
+  -- the state of these parts, with the table of another
+  abbrev pub make_state : State K V S → Bool → List (K × V) → ℕ → S → State K V S
+  make_state m is_vec pairs capacity builder = record m { is_vec = is_vec; pairs = pairs; capacity = capacity; builder = builder }
+
+  -- a pair of this hash may be added here
+  abbrev pub IsVacancyIn : State K V S → ℕ → Vacancy → Type 0
+  IsVacancyIn m = IsVacancy (store_in m)
+
+  -- a pair is held here
+  abbrev pub IsPlacedIn : State K V S → Found → Type 0
+  IsPlacedIn m = IsPlaced (store_in m)
 
   -- the map with these pairs, all else the same
   abbrev pub map_with_pairs : State K V S → List (K × V) → State K V S
   map_with_pairs m ps = record m { pairs = ps }
 
-  -- new is old with these pairs: form, capacity and builder are the same; what the buckets contain is not said
+  -- new is old with these pairs: form, capacity and builder are the same; of the table nothing is said
   pub record WithPairs (old : State K V S) (ps : List (K × V)) (new : State K V S) : Type 0 where
     pub pairs : new.pairs ≡ ps
     pub form : new.is_vec ≡ old.is_vec
@@ -36,9 +50,7 @@ module _ {K V S : Type 0} where
     pub builder : new.builder ≡ old.builder
 
 abbrev pub state_code : {K V S : Type 0} → Coded K → Coded V → Coded S → Coded (State K V S)
-state_code k v s = coded_via (coded× coded_bool (coded× (coded_list (coded× k v)) (coded× coded_ℕ (coded× s contents_code))))
-    (λ m. (m.is_vec, (m.pairs, (m.capacity, (m.builder, m.contents)))))
-    (λ a b e i. make_state (e i).0 (e i).1.0 (e i).1.1.0 (e i).1.1.1.0 (e i).1.1.1.1)
+state_code k v s = coded_via (coded× (store_code k v) s) (λ m. (store_in m, m.builder)) (λ a b e i. state_in (e i).0 (e i).1)
 
 -- what holds of every map: no two held keys are equal, the pairs fit in the capacity, a vector's capacity is at most the limit, and a
 -- table's is more than the limit, so never 0, and one of the series

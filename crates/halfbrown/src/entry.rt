@@ -1,8 +1,7 @@
 //! The entry of one key: the pair that is held for it, or a vacancy for the pair that is not.
 ghost use Rattle.std.specs.Prelude.{◌≡◌, ◌<◌, false, length};
-ghost use Rattle.half_store.specs.Store.{IsPlaced, IsVacancy};
 ghost use Rattle.halfbrown.specs.Pairs.{holds};
-ghost use Rattle.halfbrown.specs.State.{contents_of};
+ghost use Rattle.halfbrown.specs.State.{IsPlacedIn, IsVacancyIn};
 
 mod debug;
 mod make;
@@ -53,8 +52,7 @@ pub struct OccupiedEntry<
     pub(crate) index: usize,
     pub(crate) bucket: usize,
     ghost within: { index < length map.now.pairs },
-    ghost placed: { IsPlaced map.now.is_vec (contents_of map.now)
-        (record { index = index; bucket = bucket }) },
+    ghost placed: { IsPlacedIn map.now (record { index = index; bucket = bucket }) },
 }
 
 /// A vacancy for the pair of a key that is not held.
@@ -76,8 +74,7 @@ pub struct VacantEntry<
     vacancy: Vacancy,
     ghost capacity_left: { length map.now.pairs < map.now.capacity },
     ghost absent: { holds K.eq map.now.pairs key ≡ false },
-    ghost vacant: { ∥ IsVacancy map.now.is_vec (contents_of map.now)
-        (S.hash map.now.builder key) vacancy ∥₁ },
+    ghost vacant: { ∥ IsVacancyIn map.now (S.hash map.now.builder key) vacancy ∥₁ },
 }
 
 // Written out, so that a caller who drops it unused knows the map.

@@ -70,8 +70,8 @@ pub struct LimitedHashMap<
 }
 
 impl<K: Eq + Hash, V, S: KeyHasher<K>, L: Limit> Model for LimitedHashMap<K, V, S, L> {
-    ghost use Rattle.halfbrown.specs.State.{State, state_code};
-    ghost use Rattle.halfbrown.specs.Layout.{state_in, IsMapInvariant};
+    ghost use Rattle.halfbrown.specs.State.{State, state_code, state_in};
+    ghost use Rattle.halfbrown.specs.Layout.{IsMapInvariant};
 
     ghost Value = { State K V S };
 

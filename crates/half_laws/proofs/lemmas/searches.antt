@@ -10,7 +10,6 @@ use Rattle.std.specs.Map.{keys_of}
 use Rattle.half_store.specs.Reach.{reach}
 use Rattle.half_store.specs.Capacity.{buckets_of, least_buckets}
 use Rattle.half_store.specs.PairLists.{index_of}
-use Rattle.half_store.specs.Table.{Contents}
 use Rattle.half_store.specs.Work.{Work, first_match_cost}
 use Rattle.half_store.proofs.lemmas.table.Reach.{reach-none}
 use Rattle.half_store.proofs.lemmas.capacity.{four-le_count, buckets_for-least, buckets_of-capacity_of, capacity_for-capacity_of}
@@ -28,7 +27,7 @@ use Rattle.half_laws.specs.MapLaws.{CommandBucketsLaw, finds_in_vector}
 use Rattle.halfbrown.specs.Growth.{is_full, is_vec_after}
 use Rattle.halfbrown.specs.Pairs.{holds, holds_by}
 use Rattle.halfbrown.specs.Run.{command_cost}
-use Rattle.halfbrown.specs.State.{State, make_state, contents_of, IsValid, IsTableCapacity}
+use Rattle.halfbrown.specs.State.{State, make_state, IsValid, IsTableCapacity}
 use Rattle.halfbrown.proofs.lemmas.map.Growth.{full_len}
 use Rattle.halfbrown.proofs.lemmas.pairs.Indices.{absent_of_unheld, found_where_held}
 
@@ -216,9 +215,9 @@ module _ {K V S : Type 0} (hash : S → K → ℕ) where
   pub history_law : HistoryLaw V hash
   history_law a b test wanted asked a_before a_after b_before b_after same unheld a_costs b_costs =
       let alike : cost_asking test wanted asked a
-      ≡ cost_asking test wanted asked (make_state b.is_vec a.pairs b.capacity b.builder (contents_of a)) =
-      λ i. cost_asking test wanted asked (make_state (same.form i) a.pairs (same.capacity i) (same.builder i) (contents_of a)) in
-      let moved : cost_asking test wanted asked (make_state b.is_vec a.pairs b.capacity b.builder (contents_of a))
+      ≡ cost_asking test wanted asked (make_state a b.is_vec a.pairs b.capacity b.builder) =
+      λ i. cost_asking test wanted asked (make_state a (same.form i) a.pairs (same.capacity i) (same.builder i)) in
+      let moved : cost_asking test wanted asked (make_state a b.is_vec a.pairs b.capacity b.builder)
       ≡ cost_asking test wanted asked b = λ i. record {
         asked = asked;
         compared = compares-same b.builder a.pairs b.pairs same.pairs test wanted b.is_vec
@@ -249,13 +248,13 @@ module _ {K V S : Type 0} (hash : S → K → ℕ) where
         costs.grew
 
   module _ (limit : ℕ) (eq : K → K → Bool) where
-    module _ (is_vec : Bool) (xs ys : List (K × V)) (capacity : ℕ) (builder : S) (some others : Contents)
+    module _ (is_vec : Bool) (xs ys : List (K × V)) (capacity : ℕ) (builder : S) (some others : State K V S)
         (p : IsPermutation xs ys) where
       abbrev first : State K V S
-      first = make_state is_vec xs capacity builder some
+      first = make_state some is_vec xs capacity builder
 
       abbrev second : State K V S
-      second = make_state is_vec ys capacity builder others
+      second = make_state others is_vec ys capacity builder
 
       long : length xs ≡ length ys
       long = sym (length_permutation xs ys p)
@@ -342,10 +341,10 @@ module _ {K V S : Type 0} (hash : S → K → ℕ) where
     -- two maps of the same form, capacity and builder
     module _ (a b : State K V S) (same : HoldSamePairs a b) where
       abbrev moved : State K V S
-      moved = make_state b.is_vec a.pairs b.capacity b.builder (contents_of a)
+      moved = make_state a b.is_vec a.pairs b.capacity b.builder
 
       alike : a ≡ moved
-      alike = λ i. make_state (same.form i) a.pairs (same.capacity i) (same.builder i) (contents_of a)
+      alike = λ i. make_state a (same.form i) a.pairs (same.capacity i) (same.builder i)
 
       unheld-too : (k : K) → holds eq a.pairs k ≡ false → holds eq b.pairs k ≡ false
       unheld-too k unheld = sym (held-same b.builder a.pairs b.pairs same.pairs (eq k) (hash b.builder k)) ∙ unheld
@@ -353,7 +352,7 @@ module _ {K V S : Type 0} (hash : S → K → ℕ) where
       insertions-alike : (k : K) (granted : Bool) → holds eq a.pairs k ≡ false
           → insert_cost limit eq hash a k granted ≡ insert_cost limit eq hash b k granted
       insertions-alike k granted unheld = ap (λ m. insert_cost limit eq hash m k granted) alike
-          ∙ insert-same b.is_vec a.pairs b.pairs b.capacity b.builder (contents_of a) (contents_of b) same.pairs k
+          ∙ insert-same b.is_vec a.pairs b.pairs b.capacity b.builder a b same.pairs k
           granted (never_found (is_vec_after limit moved) (holds eq a.pairs k) unheld)
 
     pub insertion_history_law : InsertionHistoryLaw V limit eq hash
@@ -366,16 +365,16 @@ module _ {K V S : Type 0} (hash : S → K → ℕ) where
 
     pub command_cost_law : CommandCostLaw V limit eq hash
     command_cost_law a b command granted same none = ap (λ m. command_cost limit eq hash m command granted) (alike a b same)
-        ∙ cost-same b.is_vec a.pairs b.pairs b.capacity b.builder (contents_of a) (contents_of b) same.pairs command
+        ∙ cost-same b.is_vec a.pairs b.pairs b.capacity b.builder a b same.pairs command
         granted
         (subst (λ m. finds_in_vector limit eq m command ≡ false) (alike a b same) none)
 
     pub command_hashes_law : CommandHashesLaw V limit eq hash
     command_hashes_law a b command granted same = ap (λ m. (command_cost limit eq hash m command granted).asked) (alike a b same)
-        ∙ hashes-same b.is_vec a.pairs b.pairs b.capacity b.builder (contents_of a) (contents_of b) same.pairs command
+        ∙ hashes-same b.is_vec a.pairs b.pairs b.capacity b.builder a b same.pairs command
         granted
 
     pub command_buckets_law : CommandBucketsLaw V limit eq hash
     command_buckets_law a b command granted same = ap (λ m. (command_cost limit eq hash m command granted).looked) (alike a b same)
-        ∙ buckets-same b.is_vec a.pairs b.pairs b.capacity b.builder (contents_of a) (contents_of b) same.pairs command
+        ∙ buckets-same b.is_vec a.pairs b.pairs b.capacity b.builder a b same.pairs command
         granted

@@ -20,10 +20,10 @@ impl<K, V> Store<K, V> {
     #[inline(always)]
     pub fn push(&mut self, key: K, value: V, vacancy: Vacancy) -> Found
         requires capacity { length self.old.pairs < self.old.capacity }
-        requires vacant { IsVacancy self.old.is_vec self.old.contents vacancy.hash vacancy }
+        requires vacant { IsVacancy self.old vacancy.hash vacancy }
         ensures after { self.new ≡ store_pushed self.old key value vacancy }
         ensures index { result.index ≡ length self.old.pairs }
-        ensures placed { IsPlaced self.new.is_vec self.new.contents result }
+        ensures placed { IsPlaced self.new result }
     {
         let index = self.columns.len();
         if let Some(table) = &mut self.table {
@@ -40,7 +40,7 @@ impl<K, V> Store<K, V> {
     #[inline(always)]
     pub fn take_at(&mut self, found: Found) -> (K, V)
         requires within { found.index < length self.old.pairs }
-        requires placed { IsPlaced self.old.is_vec self.old.contents found }
+        requires placed { IsPlaced self.old found }
         ensures { StoreSwapRemoves self.old self.new found.index result }
     {
         if let Some(table) = &mut self.table {
@@ -60,19 +60,19 @@ impl<K, V> Store<K, V> {
         f: F,
     ) -> Result<Found, (K, u64)>
         requires within { found.index < length self.old.pairs }
-        requires placed { IsPlaced self.old.is_vec self.old.contents found }
+        requires placed { IsPlaced self.old found }
         requires callable { (key : Bor K) (value : V)
             → slice_get self.old.pairs found.index ≡ Some (key.now, value) → F.pre f key value }
         ensures replaces { ReplacesValue (F.post f) self.old.is_vec self.old.pairs found.index
             self.new.pairs (option_map (λ removed. removed.0) (result_err result)) }
         ensures at { IfOk result
             (λ at. at.index ≡ kept_index self.old.is_vec self.old.pairs found.index) }
-        ensures placed { IfOk result (IsPlaced self.new.is_vec self.new.contents) }
+        ensures placed { IfOk result (IsPlaced self.new) }
         ensures hash { IfErr result (λ removed. self.old.is_vec ≡ false
-            → slice_get self.old.hashes found.index ≡ Some removed.1) }
+            → slice_get self.old.table.hashes found.index ≡ Some removed.1) }
         ensures hashes { IfErr result (λ _. self.old.is_vec ≡ false
-            → self.new.hashes ≡ swap_remove_at self.old.hashes found.index) }
-        ensures kept { OnOk result (self.new.hashes ≡ self.old.hashes) }
+            → self.new.table.hashes ≡ swap_remove_at self.old.table.hashes found.index) }
+        ensures kept { OnOk result (self.new.table.hashes ≡ self.old.table.hashes) }
         ensures form { SameFormAndCapacity self.old self.new }
     {
         let Some(table) = &mut self.table else {
@@ -99,8 +99,8 @@ impl<K, V> Store<K, V> {
         ensures kept { RetainsPairs (CalledAtPair F.FnMut) f self.old.pairs self.new.pairs }
         ensures len { length self.new.pairs ≤ length self.old.pairs }
         ensures hashes { self.old.is_vec ≡ false → (hash : K → ℕ)
-            → self.old.hashes ≡ map hash (keys_of self.old.pairs)
-            → self.new.hashes ≡ map hash (keys_of self.new.pairs) }
+            → self.old.table.hashes ≡ map hash (keys_of self.old.pairs)
+            → self.new.table.hashes ≡ map hash (keys_of self.new.pairs) }
         ensures form { SameFormAndCapacity self.old self.new }
     {
         match &mut self.table {
@@ -112,7 +112,7 @@ impl<K, V> Store<K, V> {
     /// Removes the pair that is held here. Each pair behind it gets the index before its own.
     pub fn shift_take_at(&mut self, found: Found) -> (K, V)
         requires within { found.index < length self.old.pairs }
-        requires placed { IsPlaced self.old.is_vec self.old.contents found }
+        requires placed { IsPlaced self.old found }
         ensures { StoreShiftRemoves self.old self.new found.index result }
     {
         if let Some(table) = &mut self.table {

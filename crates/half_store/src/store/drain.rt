@@ -46,7 +46,7 @@ pub trait IntoStore<K, V> {
         K: Drop,
         V: Drop,
         ensures pairs { result.pairs ≡ [] }
-        ensures hashes { result.hashes ≡ [] }
+        ensures hashes { result.table.hashes ≡ [] }
         ensures form { SameFormAndCapacity (Self.store self) result };
 }
 

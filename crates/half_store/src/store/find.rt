@@ -63,9 +63,9 @@ impl<K, V> Store<K, V> {
     pub fn vacancy_for(&self, hash: u64, tally: &mut Tally) -> Vacancy
         requires { length self.now.pairs < self.now.capacity }
         ensures hash { result.hash ≡ hash }
-        ensures vacant { IsVacancy self.now.is_vec self.now.contents hash result }
+        ensures vacant { IsVacancy self.now hash result }
         ensures cost { tally.new ≡ looked_more (if self.now.is_vec then 0
-            else reach self.now.hashes (buckets_of self.now.capacity) hash) tally.old }
+            else reach self.now.table.hashes (buckets_of self.now.capacity) hash) tally.old }
     {
         let bucket = match &self.table {
             Some(table) => table.insertion_probe(hash, tally),
@@ -78,7 +78,7 @@ impl<K, V> Store<K, V> {
     pub fn place_of(&self, index: usize) -> Found
         requires { index < length self.now.pairs }
         ensures index { result.index ≡ index }
-        ensures placed { IsPlaced self.now.is_vec self.now.contents result }
+        ensures placed { IsPlaced self.now result }
     {
         let bucket = match &self.table {
             Some(table) => uncounted!(table.bucket_of(index)),

@@ -4,7 +4,7 @@ ghost use Rattle.half_store.specs.Slots.{EachOnce};
 ghost use Rattle.half_store.specs.Work.{looked_more, ReadsWithin};
 ghost use Rattle.half_store.specs.Reach.{reach};
 ghost use Rattle.half_store.specs.StoreRemoval.{MovesToEnd};
-ghost use Rattle.half_store.specs.Table.{table_contents, IsIndexed, IsTablePlace};
+ghost use Rattle.half_store.specs.Table.{IsIndexed, IsTablePlace};
 
 use super::Table;
 use super::deletion::remove_at;
@@ -16,7 +16,7 @@ impl Table {
     /// reads each bucket once, and then at most as many as two unsuccessful probes for the hash of the pair.
     pub fn shift_remove_at(&mut self, index: usize, bucket: usize, tally: &mut Tally)
         requires within { index < length self.old.hashes }
-        requires at { IsTablePlace (table_contents self.old) index bucket }
+        requires at { IsTablePlace self.old index bucket }
         ensures hashes { self.new.hashes ≡ remove self.old.hashes index }
         ensures buckets { self.new.buckets ≡ self.old.buckets }
         ensures cost { ReadsWithin (self.old.buckets + 2 * reach self.old.hashes self.old.buckets

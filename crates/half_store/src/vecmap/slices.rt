@@ -10,8 +10,8 @@ use std::alloc::Global;
 impl<K, V> Columns<K, V> {
     ghost use Rattle.half_store.specs.StoreLending.{ColumnsLendValues};
 
-    // Where its memory is from.
-    pub(crate) fn allocator(&self) -> Global {
+    /// Where its memory is from.
+    pub fn allocator(&self) -> Global {
         *self.keys.allocator()
     }
 

@@ -12,6 +12,8 @@ ghost use Rattle.halfbrown.specs.EntryView.{entry_value, ModifiesEntry};
 
 use super::Entry;
 use crate::{KeyHasher, Limit};
+use std::alloc::Global;
+use std::default::MadeWith;
 use std::hash::Hash;
 
 impl<'a, K: Eq + Hash, V, S: KeyHasher<K>, L: Limit> Entry<'a, K, V, S, L> {
@@ -70,7 +72,8 @@ impl<'a, K: Eq + Hash, V, S: KeyHasher<K>, L: Limit> Entry<'a, K, V, S, L> {
         }
     }
 
-    /// `or_insert` with the type's default value, which is made only where the key is not held.
+    /// `or_insert` with the type's default value, which is made only if the key is not held. An empty `Vec`, `String` or map takes
+    /// its memory from the map's allocator.
     ///
     /// ```
     /// assert_eq!(rt; *ages.entry(3)?.or_default(), 0);
@@ -78,14 +81,17 @@ impl<'a, K: Eq + Hash, V, S: KeyHasher<K>, L: Limit> Entry<'a, K, V, S, L> {
     #[inline(always)]
     pub fn or_default(self) -> &'a mut V
     where
-        V: Default,
+        V: MadeWith<Global>,
         ensures* writes_back { sem 𝓛
             (EntryLends K.row V.row S.row L.row S.Hasher.row self.entry result) }
-        ensures value { UnwrapsOrElse (entry_value (view self.entry)) V.is_default result.now }
+        ensures value { UnwrapsOrElse (entry_value (view self.entry)) V.is_made_with result.now }
     {
         match self {
             Entry::Occupied(entry) => entry.into_mut(),
-            Entry::Vacant(entry) => entry.insert(V::default()),
+            Entry::Vacant(entry) => {
+                let alloc = entry.map.columns().allocator();
+                entry.insert(V::made_with(alloc))
+            }
         }
     }
 

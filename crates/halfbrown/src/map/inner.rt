@@ -9,13 +9,11 @@ ghost use Rattle.std.specs.Result.{result_err};
 ghost use Rattle.half_store.specs.Capacity.{IsFormCapacity};
 ghost use Rattle.half_store.specs.PairLists.{set_key_at, set_value_at, swap_remove_at};
 ghost use Rattle.half_store.specs.Work.{looked_more};
-ghost use Rattle.half_store.specs.Store.{IsPlaced, IsVacancy};
 ghost use Rattle.half_store.specs.ValueReplacement.{kept_index, ReplacesValue};
 ghost use Rattle.halfbrown.specs.Costs.{probe_length};
 ghost use Rattle.halfbrown.specs.Pairs.{holds};
 ghost use Rattle.halfbrown.specs.Insertion.{pushed};
-ghost use Rattle.halfbrown.specs.State.{IsValid, WithPairs, contents_of};
-ghost use Rattle.halfbrown.specs.Layout.{state_in};
+ghost use Rattle.halfbrown.specs.State.{IsValid, WithPairs, IsPlacedIn, IsVacancyIn, map_with_pairs, state_in};
 ghost use Rattle.halfbrown.specs.Updates.{HasKeyReplaced, ShiftRemovesAt};
 
 use super::LimitedHashMap;
@@ -65,8 +63,7 @@ impl<K: Eq + Hash, V, S: KeyHasher<K>, L: Limit> LimitedHashMap<K, V, S, L> {
         requires equal { IfSome (slice_get (keys_of self.old.pairs) index)
             (λ k. K.eq key k ≡ true) }
         ensures old { slice_get (keys_of self.old.pairs) index ≡ Some result }
-        ensures after { WithPairs self.old (set_key_at self.old.pairs index key) self.new }
-        ensures contents { contents_of self.new ≡ contents_of self.old }
+        ensures after { self.new ≡ map_with_pairs self.old (set_key_at self.old.pairs index key) }
         ensures replaced { HasKeyReplaced K.eq self.old.pairs key self.new.pairs }
         ensures valid { IsValid L.LIMIT K.eq self.new }
     {
@@ -78,7 +75,7 @@ impl<K: Eq + Hash, V, S: KeyHasher<K>, L: Limit> LimitedHashMap<K, V, S, L> {
     #[inline(always)]
     pub(crate) fn vacancy_for(&self, hash: u64, tally: &mut Tally) -> Vacancy
         requires capacity { length self.now.pairs < self.now.capacity }
-        ensures vacant { IsVacancy self.now.is_vec (contents_of self.now) hash result }
+        ensures vacant { IsVacancyIn self.now hash result }
         ensures work { tally.new ≡ looked_more (probe_length
             (S.hash self.now.builder) self.now.is_vec self.now.capacity self.now.pairs hash) tally.old }
     {
@@ -102,7 +99,7 @@ impl<K: Eq + Hash, V, S: KeyHasher<K>, L: Limit> LimitedHashMap<K, V, S, L> {
     pub(crate) fn place_of(&self, index: usize) -> Found
         requires { index < length self.now.pairs }
         ensures index { result.index ≡ index }
-        ensures placed { IsPlaced self.now.is_vec (contents_of self.now) result }
+        ensures placed { IsPlacedIn self.now result }
     {
         self.store.place_of(index)
     }
@@ -112,12 +109,12 @@ impl<K: Eq + Hash, V, S: KeyHasher<K>, L: Limit> LimitedHashMap<K, V, S, L> {
     pub(crate) fn push(&mut self, key: K, value: V, vacancy: Vacancy) -> Found
         requires capacity { length self.old.pairs < self.old.capacity }
         requires absent { holds K.eq self.old.pairs key ≡ false }
-        requires vacant { IsVacancy self.old.is_vec (contents_of self.old)
+        requires vacant { IsVacancyIn self.old
             (S.hash self.old.builder key) vacancy }
         ensures exact { self.new ≡ pushed self.old key value vacancy }
         ensures after { WithPairs self.old (self.old.pairs ++ (key, value) ∷ []) self.new }
         ensures index { result.index ≡ length self.old.pairs }
-        ensures placed { IsPlaced self.new.is_vec (contents_of self.new) result }
+        ensures placed { IsPlacedIn self.new result }
         ensures valid { IsValid L.LIMIT K.eq self.new }
     {
         self.store.push(key, value, vacancy)
@@ -127,7 +124,7 @@ impl<K: Eq + Hash, V, S: KeyHasher<K>, L: Limit> LimitedHashMap<K, V, S, L> {
     #[inline(always)]
     pub(crate) fn take_at(&mut self, found: Found) -> (K, V)
         requires within { found.index < length self.old.pairs }
-        requires placed { IsPlaced self.old.is_vec (contents_of self.old) found }
+        requires placed { IsPlacedIn self.old found }
         ensures taken { slice_get self.old.pairs found.index ≡ Some result }
         ensures value { slice_get (values_of self.old.pairs) found.index ≡ Some result.1 }
         ensures after { WithPairs self.old (swap_remove_at self.old.pairs found.index) self.new }
@@ -140,7 +137,7 @@ impl<K: Eq + Hash, V, S: KeyHasher<K>, L: Limit> LimitedHashMap<K, V, S, L> {
     #[inline]
     pub(crate) fn shift_take_at(&mut self, found: Found) -> (K, V)
         requires within { found.index < length self.old.pairs }
-        requires placed { IsPlaced self.old.is_vec (contents_of self.old) found }
+        requires placed { IsPlacedIn self.old found }
         ensures { ShiftRemovesAt L.LIMIT K.eq self.old found.index (Some result) self.new }
     {
         self.store.shift_take_at(found)
@@ -156,14 +153,14 @@ impl<K: Eq + Hash, V, S: KeyHasher<K>, L: Limit> LimitedHashMap<K, V, S, L> {
         f: F,
     ) -> Result<Found, (K, u64)>
         requires within { found.index < length self.old.pairs }
-        requires placed { IsPlaced self.old.is_vec (contents_of self.old) found }
+        requires placed { IsPlacedIn self.old found }
         requires callable { (key : Bor K) (value : V)
             → slice_get self.old.pairs found.index ≡ Some (key.now, value) → F.pre f key value }
         ensures replaces { ReplacesValue (F.post f) self.old.is_vec self.old.pairs found.index
             self.new.pairs (option_map (λ removed. removed.0) (result_err result)) }
         ensures at { IfOk result
             (λ at. at.index ≡ kept_index self.old.is_vec self.old.pairs found.index) }
-        ensures placed { IfOk result (IsPlaced self.new.is_vec (contents_of self.new)) }
+        ensures placed { IfOk result (IsPlacedIn self.new) }
         ensures after { WithPairs self.old self.new.pairs self.new }
         ensures hash { IfErr result
             (λ removed. self.new.is_vec ≡ false → removed.1 ≡ S.hash self.new.builder removed.0) }

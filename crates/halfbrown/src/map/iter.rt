@@ -6,7 +6,7 @@ ghost use Rattle.std.specs.Prelude.{◌≡◌, ◌^◌, ◌<◌, length};
 ghost use Rattle.std.specs.Borrow.{sem};
 ghost use Rattle.std.specs.Iterator.Runs.{YieldsMutRefsInOrder};
 ghost use Rattle.std.specs.Map.{keys_of, values_of};
-ghost use Rattle.std.specs.Map.Iter.{LendsValuesInOrder};
+ghost use Rattle.std.specs.Map.Iter.{LendsValuesInOrder, ShowsInOrder, deref};
 ghost use Rattle.halfbrown.specs.State.{IsValid};
 ghost use Rattle.halfbrown.specs.Updates.{KeepsKeys};
 
@@ -17,7 +17,6 @@ use std::marker::PhantomData;
 
 impl<K: Eq + Hash, V, S: KeyHasher<K>, L: Limit> LimitedHashMap<K, V, S, L> {
     ghost use Rattle.halfbrown.specs.Iter.{pairs_left, ShowsPairsInOrder};
-    ghost use Rattle.halfbrown.specs.Iter.{column_left, ShowsColumnInOrder};
     ghost use Rattle.halfbrown.specs.Iter.{iter_mut_left, iter_mut_name};
     ghost use Rattle.halfbrown.specs.Iter.{values_mut_left, values_mut_name, ValuesMutSteps};
     ghost use Rattle.halfbrown.specs.Lending.{LendsValues};
@@ -50,9 +49,9 @@ impl<K: Eq + Hash, V, S: KeyHasher<K>, L: Limit> LimitedHashMap<K, V, S, L> {
     /// ```
     #[inline(always)]
     pub fn keys(&self) -> Keys<'_, K, V>
-        ensures left { column_left result ≡ keys_of self.now.pairs }
+        ensures left { result ≡ keys_of self.now.pairs }
         ensures small { length self.now.pairs < 2 ^ 63 }
-        ensures runs { ShowsColumnInOrder K V }
+        ensures runs { ShowsInOrder (deref {X = K}) }
         ensures valid { IsValid L.LIMIT K.eq self.now }
     {
         Column {
@@ -68,9 +67,9 @@ impl<K: Eq + Hash, V, S: KeyHasher<K>, L: Limit> LimitedHashMap<K, V, S, L> {
     /// ```
     #[inline(always)]
     pub fn values(&self) -> Values<'_, K, V>
-        ensures left { column_left result ≡ values_of self.now.pairs }
+        ensures left { result ≡ values_of self.now.pairs }
         ensures small { length self.now.pairs < 2 ^ 63 }
-        ensures runs { ShowsColumnInOrder V K }
+        ensures runs { ShowsInOrder (deref {X = V}) }
         ensures valid { IsValid L.LIMIT K.eq self.now }
     {
         Column {

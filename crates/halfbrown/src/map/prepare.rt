@@ -1,13 +1,12 @@
 //! What an insertion does before it writes: the switch, the search, and capacity for one pair more.
 ghost use Rattle.std.specs.Prelude.{◌≡◌, ◌<◌, false, length, OnOk, IfOk, is_ok, if◌then◌else◌};
 ghost use Rattle.half_store.specs.Work.{looked_more, asked_more};
-ghost use Rattle.half_store.specs.Store.{IsVacancy};
 ghost use Rattle.halfbrown.specs.CostRanges.{GrewBy};
 ghost use Rattle.halfbrown.specs.Costs.{switch_asked, new_key_cost, IsInsertCost};
 ghost use Rattle.halfbrown.specs.Growth.{is_full, growth_needs, insert_needs, new_key_needs};
 ghost use Rattle.halfbrown.specs.Pairs.{holds};
 ghost use Rattle.halfbrown.specs.Insertion.{IsPreparedFor, MayInsertAt, PreparesOrRefuses, second_probe_reads};
-ghost use Rattle.halfbrown.specs.State.{contents_of};
+ghost use Rattle.halfbrown.specs.State.{IsVacancyIn};
 
 use super::LimitedHashMap;
 use crate::{KeyHasher, Limit};
@@ -92,12 +91,12 @@ impl<K: Eq + Hash, V, S: KeyHasher<K>, L: Limit> LimitedHashMap<K, V, S, L> {
     ) -> Result<Vacancy, Refusal>
         requires not_full { is_full L.LIMIT self.old ≡ false }
         requires vacant { 0 < self.old.capacity
-            → IsVacancy self.old.is_vec (contents_of self.old) vacancy.hash vacancy }
+            → IsVacancyIn self.old vacancy.hash vacancy }
         ensures prepares { PreparesOrRefuses L.LIMIT K.eq self.old
             (growth_needs self.old) result self.new }
         ensures capacity { OnOk result (length self.new.pairs < self.new.capacity) }
         ensures vacant { IfOk result
-            (IsVacancy self.new.is_vec (contents_of self.new) vacancy.hash) }
+            (IsVacancyIn self.new vacancy.hash) }
         ensures work { tally.new ≡ looked_more (second_probe_reads (S.hash self.old.builder) self.old vacancy.hash (is_ok result))
             tally.old }
     {

@@ -1,7 +1,7 @@
 //! What raw entries are made from, and the searches of it.
 //!
 //! A clause `unchanged` says that the map stays as it is where memory is refused.
-ghost use Rattle.std.specs.Prelude.{◌≡◌, is_ok, if◌then◌else◌};
+ghost use Rattle.std.specs.Prelude.{◌≡◌, false, is_ok, if◌then◌else◌};
 ghost use Rattle.std.specs.Borrow.{sem};
 ghost use Rattle.std.specs.Fn.{FnReturnsAt};
 ghost use Rattle.std.specs.Map.{keys_of};
@@ -95,10 +95,8 @@ impl<'a, K: Eq + Hash, V, S: KeyHasher<K>, L: Limit> RawEntryBuilder<'a, K, V, S
         ensures cost { IsLookupCost S.KeyHasher Q.hash_input Q.equivalent key (map_in self.entry)
             tally.old tally.new }
     {
-        match self.map.find(key, tally) {
-            Ok(found) => Some(self.map.pair_at(found.index)),
-            Err(_) => None,
-        }
+        let hash = self.map.hash_in_table(&key, tally);
+        self.from_key_hashed_nocheck_counted(hash, key, tally)
     }
 
     /// `from_key` by a hash that is known, which must be the builder's hash of the key. Nothing is hashed.
@@ -119,7 +117,8 @@ impl<'a, K: Eq + Hash, V, S: KeyHasher<K>, L: Limit> RawEntryBuilder<'a, K, V, S
         uncounted!(self.from_key_hashed_nocheck_counted(hash, key))
     }
 
-    /// `from_key_hashed_nocheck`, with its work counted: that of one search, with no hash.
+    /// `from_key_hashed_nocheck`, with its work counted: that of one search, with no hash. A vector does not look at the
+    /// hash.
     #[inline(always)]
     pub fn from_key_hashed_nocheck_counted<Q: Equivalent<K>>(
         self,
@@ -127,7 +126,8 @@ impl<'a, K: Eq + Hash, V, S: KeyHasher<K>, L: Limit> RawEntryBuilder<'a, K, V, S
         key: Q,
         tally: &mut Tally,
     ) -> Option<(&'a K, &'a V)>
-        requires { hash ≡ S.hash_writes (map_in self).builder (Q.hash_input key) }
+        requires { (map_in self).is_vec ≡ false
+            → hash ≡ S.hash_writes (map_in self).builder (Q.hash_input key) }
         ensures reads { ReadsPair (Q.equivalent key) (map_in self.entry) result }
         ensures cost { IsHashedLookupCost S.KeyHasher Q.hash_input Q.equivalent key (map_in self.entry)
             tally.old tally.new }
@@ -208,14 +208,8 @@ impl<'a, K: Eq + Hash, V, S: KeyHasher<K>, L: Limit> RawEntryBuilderMut<'a, K, V
             tally.old tally.new }
     {
         let RawEntryBuilderMut::Prepared(prepared) = self;
-        match prepared.map.find(key, tally) {
-            Ok(Found { index, bucket }) => RawEntryMut::Occupied(OccupiedEntry {
-                map: prepared.map,
-                index,
-                bucket,
-            }),
-            Err(_) => RawEntryMut::Vacant(RawVacantEntryMut { map: prepared.map }),
-        }
+        let hash = prepared.map.hash_in_table(&key, tally);
+        RawEntryBuilderMut::Prepared(prepared).from_key_hashed_nocheck_counted(hash, key, tally)
     }
 
     /// `from_key` by a hash that is known, which must be the builder's hash of the key. Nothing is hashed.
@@ -238,7 +232,8 @@ impl<'a, K: Eq + Hash, V, S: KeyHasher<K>, L: Limit> RawEntryBuilderMut<'a, K, V
         uncounted!(self.from_key_hashed_nocheck_counted(hash, key))
     }
 
-    /// `from_key_hashed_nocheck`, with its work counted: that of one search, with no hash.
+    /// `from_key_hashed_nocheck`, with its work counted: that of one search, with no hash. A vector does not look at the
+    /// hash.
     #[inline]
     pub fn from_key_hashed_nocheck_counted<Q: Equivalent<K>>(
         self,
@@ -246,7 +241,8 @@ impl<'a, K: Eq + Hash, V, S: KeyHasher<K>, L: Limit> RawEntryBuilderMut<'a, K, V
         key: Q,
         tally: &mut Tally,
     ) -> RawEntryMut<'a, K, V, S, L>
-        requires { hash ≡ S.hash_writes (prepared_map self).builder (Q.hash_input key) }
+        requires { (prepared_map self).is_vec ≡ false
+            → hash ≡ S.hash_writes (prepared_map self).builder (Q.hash_input key) }
         ensures searches { FindsRawEntry L.LIMIT K.eq (Q.equivalent key)
             (prepared_ref self.entry) (raw_view result) }
         ensures cost { IsHashedLookupCost S.KeyHasher Q.hash_input Q.equivalent key (prepared_map self.entry)

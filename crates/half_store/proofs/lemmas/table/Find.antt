@@ -2,7 +2,7 @@
 use Rattle.half_store.proofs.Common.{◌≡◌, ◌≤◌, length, ◌+◌, refl, ◌∙◌, arith, ℕ, ◌-◌, ◌<◌, sym, ap, Bool, List, Some, slice_index, Option, subst, ◌≢◌, true}
 use Rattle.half_store.proofs.Common.{false, ◌==◌, count_by, common_steps, count_by-le-length, get_or_from_slice_get, slice_get_within, slice_get}
 use Rattle.half_store.proofs.Common.{reach, probe_distance, slots_from, slot_at, stored, IsSlotVacancy, distance_from_home, TableState, TableSearch}
-use Rattle.half_store.proofs.Common.{state_of_words, table_contents, IsIndexed, Work, probe_reads, looked_more}
+use Rattle.half_store.proofs.Common.{state_of_words, IsIndexed, Work, probe_reads, looked_more}
 use Rattle.std.specs.Prelude.{Result, Ok, Err, IfOk, IfErr, OnOk, OnErr}
 use Rattle.half_store.specs.Slots.{EndsAtPair}
 use Rattle.half_store.specs.Reach.{HomesApart}
@@ -44,7 +44,7 @@ module _ {hashes words : List ℕ} (x : IsIndexed hashes words) (hash : ℕ) whe
 
   -- a search that found this entry index
   looked_hit : (index p old new : ℕ) → EndsAtPair hashes words hash index p old new
-      → new ≡ old + hit_reads_in (table_contents (state_of_words hashes words)) index
+      → new ≡ old + hit_reads_in (state_of_words hashes words) index
   looked_hit index p old new ends =
       let some : slice_index words p ≢ 0 = λ none. full_from _ hash ends.found.found (slot_of_zero hashes words p none) in
       let at : slice_get hashes index ≡ Some hash = ap (slice_get hashes) ends.entry ∙ index_at p ends.found.found in
@@ -57,7 +57,7 @@ module _ {hashes words : List ℕ} (x : IsIndexed hashes words) (hash : ℕ) whe
   finds_none returns w none = grind (arith, common_steps, hits_add_up, buckets_seen, count_by-le-length, reach-none, same_work, short, slice_get_within)
 
   -- the bucket where a search ends has its pair
-  placed : (index p old new : ℕ) → EndsAtPair hashes words hash index p old new → IsTablePlace (table_contents (state_of_words hashes words)) index p
+  placed : (index p old new : ℕ) → EndsAtPair hashes words hash index p old new → IsTablePlace (state_of_words hashes words) index p
   placed index p old new ends =
       let some : slice_index words p ≢ 0 = λ none. full_from _ hash ends.found.found (slot_of_zero hashes words p none) in
       omega (arith, ends.entry, some)

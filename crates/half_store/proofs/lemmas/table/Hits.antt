@@ -1,7 +1,7 @@
 -- What searches read that find their pairs: all together as much as insertions do that fill an empty table.
 use Rattle.half_store.proofs.Common.{◌≡◌, ◌≤◌, length, ◌+◌, inr, refl, ◌∙◌, arith, ℕ, ◌<◌, zero, suc, inl, sym, ap, Bool, List, Some, slice_index, Option, None}
 use Rattle.half_store.proofs.Common.{subst, [], ◌∷◌, true, false, ◌==◌, cond, cases_lt, eq-eqb, ne_eqb, filling_reach, probe_distance, home, bucket_is_loaded}
-use Rattle.half_store.proofs.Common.{slots_from, slot_at, HasVacantSlot, ProbeInvariant, state_of_words, table_contents, IsIndexed, probe_reads}
+use Rattle.half_store.proofs.Common.{slots_from, slot_at, HasVacantSlot, ProbeInvariant, state_of_words, IsIndexed, probe_reads}
 use Rattle.std.proofs.Common.{sum_by}
 use Rattle.std.proofs.lemmas.Bool.{cond-true, cond-false, both_ways, false≢true}
 use Rattle.std.proofs.lemmas.List.Sums.{fails_before_first, passes_at_first}
@@ -145,7 +145,7 @@ module _ {hashes words : List ℕ} (x : IsIndexed hashes words) where
   table = record { long = length-slots_from hashes words; ordered = x.ordered; counted = index-counted x }
 
   -- the searches for all held pairs read what the insertions of their hashes read
-  pub hits_add_up : all_hit_reads_in (table_contents (state_of_words hashes words)) (length hashes) ≡ filling_reach (length words) hashes
+  pub hits_add_up : all_hit_reads_in (state_of_words hashes words) (length hashes) ≡ filling_reach (length words) hashes
   unfolding all_hit_reads_in hit_reads_in
   hits_add_up =
       let m : ℕ = length words in
@@ -166,7 +166,7 @@ module _ {hashes words : List ℕ} (x : IsIndexed hashes words) where
 
   -- a search that ends at a pair has read what its depth says
   pub hit_reads_in-at : (index p hash : ℕ) → slice_index words p ≡ suc index → slice_index hashes index ≡ hash
-      → hit_reads_in (table_contents (state_of_words hashes words)) index ≡ probe_reads (length words) hash p
+      → hit_reads_in (state_of_words hashes words) index ≡ probe_reads (length words) hash p
   unfolding hit_reads_in
   hit_reads_in-at index p hash word is =
       let within : index < length hashes = omega (arith, within-at (length hashes) words p x.each.within) in

@@ -6,7 +6,7 @@ use Rattle.half_store.specs.FormerNames.{via, refl, sym, ap, ◌∙◌, ℕ_set,
 use Rattle.half_store.specs.FormerNames.{Alike, Recodes, struct_places, laid, held, view_places, Weighed, most}
 use Rattle.half_store.specs.Columns.{ColumnsState, no_pairs}
 use Rattle.half_store.specs.Store.{StoreState, IsStore, store_of, vector_of}
-use Rattle.half_store.specs.Table.{TableState, Contents, contents_code}
+use Rattle.half_store.specs.Table.{TableState, table_code}
 use Rattle.half_store.specs.declared.store.Store.TheInside.{Inside}
 use Rattle.half_store.specs.declared.store.Store.TheView.{view, invariant}
 use Rattle.half_store.specs.contracts.store.Store as C
@@ -15,12 +15,12 @@ use Rattle.half_store.specs.formers.vecmap.Columns as columns
 
 -- what a store has beside its form and its pairs
 abbrev Rest : Type 0
-Rest = ℕ × (List ℕ × Contents)
+Rest = ℕ × TableState
 
 abbrev pub the_former : Former {0} → Type 0 → Former {0}
 the_former g K = via (pair (const Bool) (pair (list (entry g K)) (const Rest))) (λ X. StoreState K (g.Of X))
-    (λ X s. (s.is_vec, (s.pairs, (s.capacity, (s.hashes, s.contents)))))
-    (λ X v. record { is_vec = v.0; pairs = v.1.0; capacity = v.1.1.0; hashes = v.1.1.1.0; contents = v.1.1.1.1 }) (λ X s. refl) (λ X v. refl)
+    (λ X s. (s.is_vec, (s.pairs, (s.capacity, s.table))))
+    (λ X v. record { is_vec = v.0; pairs = v.1.0; capacity = v.1.1.0; table = v.1.1.1 }) (λ X s. refl) (λ X v. refl)
 
 abbrev pub the_weighed : {g : Former {0}} → Weighed g → (K : Type 0) → Weighed (the_former g K)
 the_weighed w K = record { weight = λ X μ s. most (w.weight X μ) (values_of s.pairs); puts = λ X μ s. entries_puts w K X μ s.pairs }
@@ -78,6 +78,5 @@ module _ (K R R' : RattleType) (h : R.Denot → R'.Denot) where
 
   pub the_codes_placed : Recodes R R' h → Recodes (C.the_row K R) (C.the_row K R') ((the_former this K.Denot).map R.Denot R'.Denot h)
   the_codes_placed e s =
-      let code = coded× coded_ℕ (coded× (coded_list coded_ℕ) contents_code) in
-      let rest = code.code (s.capacity, (s.hashes, s.contents)) in
+      let rest = (coded× coded_ℕ table_code).code (s.capacity, s.table) in
       ap (λ x. gcons (coded_bool.code s.is_vec) (gcons x rest)) (entries_recoded K R R' h e s.pairs)

@@ -2,7 +2,7 @@
 use Rattle.halfbrown.proofs.Common.{◌≡◌, ℕ, ◌<◌, Bool, true, false, length, arith, List, [], ◌∷◌, ◌++◌, take, slice_get, Option, Some, refl, ap, ◌∙◌, None, sym}
 use Rattle.halfbrown.proofs.Common.{subst, ◌-◌, IfSome, length-append, common_steps, Bor, IsEquivalence, IsDistinct, keys_of, values_of, option_map}
 use Rattle.halfbrown.proofs.Common.{swap_remove_at, set_value_at, length-set_value_at, set_key_at, Vacancy, with_entry_value, occupied, entry_value, IsWritten}
-use Rattle.halfbrown.proofs.Common.{insert_needs, Prepares, IsIndexOf, IsAbsent, take_out_by, State, contents_of, map_with_pairs, WithPairs, HasRemovedBy}
+use Rattle.halfbrown.proofs.Common.{insert_needs, Prepares, IsIndexOf, IsAbsent, take_out_by, State, IsPlacedIn, map_with_pairs, WithPairs, HasRemovedBy}
 use Rattle.std.proofs.Common.{set, MatchOption, true≢false}
 use Rattle.std.proofs.lemmas.Map.Entries.{length-values_of}
 use Rattle.std.specs.Borrow.{MutBor}
@@ -19,7 +19,6 @@ use Rattle.halfbrown.proofs.lemmas.pairs.SetBy.{has_put_by, has_set_by, passes_a
 use Rattle.halfbrown.proofs.lemmas.pairs.Changes.{values_of-set_key_at, key-set_key_at, swap_remove_at-set_key_at, key_of-pair, set_value_at-twice}
 use Rattle.halfbrown.proofs.lemmas.pairs.Changes.{value-set_value_at, swap_remove_at-set_value_at, set_value_at-last, value-last, pair-last}
 use Rattle.halfbrown.proofs.lemmas.pairs.Changes.{length-swap_remove_at}
-use Rattle.half_store.specs.Store.{IsPlaced}
 use Rattle.half_store.specs.ValueReplacement.{kept_index, kept_pairs, ReplacesValue}
 use Rattle.halfbrown.specs.Replacement.{ReplacesEntry, IsReplaced, IsVacated}
 use Rattle.halfbrown.specs.Ghosts.{EqGhosts, HashGhosts, HasherGhosts, LimitGhosts}
@@ -95,7 +94,7 @@ module _ {K V S L H : Type 0} {e : EqGhosts K} {h : HashGhosts K} {b : HasherGho
     (o : OccupiedEntry K V S L H e h b l) where
   -- the entry with this value, however it was shown that its index is within
   pub lent_entry : (value : V) (within : o.index < length (set_value_at o.map.now.pairs o.index value))
-      (placed : IsPlaced o.map.now.is_vec (contents_of o.map.now) (record { index = o.index; bucket = o.bucket }))
+      (placed : IsPlacedIn o.map.now (record { index = o.index; bucket = o.bucket }))
       → record {
         map = record o.map { now = map_with_pairs o.map.now (set_value_at o.map.now.pairs o.index value) };
         index = o.index;
@@ -110,7 +109,7 @@ module _ {K V S L H : Type 0} {e : EqGhosts K} {h : HashGhosts K} {b : HasherGho
         index = o.index;
         bucket = o.bucket;
         within = le_prop within (with_entry_value o value).within i;
-        placed = placed-prop o.map.now.is_vec (contents_of o.map.now) _ placed (with_entry_value o value).placed i;
+        placed = placed-prop o.map.now _ placed (with_entry_value o value).placed i;
       }
 
   -- the entry with this value is the same one, written
@@ -160,12 +159,12 @@ module _ {K V S L H : Type 0} {e : EqGhosts K} {h : HashGhosts K} {b : HasherGho
       }
 
   -- the index is within where the map has the pairs with another key
-  pub rekeyed_within : (key : K) (m : State K V S) → WithPairs o.map.now (set_key_at o.map.now.pairs o.index key) m → o.index < length m.pairs
-  rekeyed_within key m after = omega (arith, ap length after.pairs, length-set_key_at o.map.now.pairs o.index key, o.within)
+  pub rekeyed_within : (key : K) → o.index < length (set_key_at o.map.now.pairs o.index key)
+  rekeyed_within key = omega (arith, length-set_key_at o.map.now.pairs o.index key, o.within)
 
   -- the entry where its map has the pairs with another key
   pub rekeyed_entry : (key : K) (map : MutBor (State K V S)) → map.ghost_name ≡ o.map.ghost_name
-      → WithPairs o.map.now (set_key_at o.map.now.pairs o.index key) map.now
+      → map.now ≡ map_with_pairs o.map.now (set_key_at o.map.now.pairs o.index key)
       → IsRekeyed (occupied o) key (record { map = map; index = Some o.index; vacant = None })
   rekeyed_entry key map same after = grind (arith, common_steps, o.within, key-set_key_at, slice_get, swap_remove_at-set_key_at, values_of-set_key_at)
 

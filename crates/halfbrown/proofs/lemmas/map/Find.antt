@@ -1,31 +1,13 @@
 -- What a search costs.
-use Rattle.halfbrown.proofs.Common.{◌≡◌, ℕ, ◌+◌, ◌<◌, ◌≤◌, Bool, true, false, length, arith, List, get_or, slice_get, Option, map, IfSome, common_steps}
+use Rattle.halfbrown.proofs.Common.{◌≡◌, ℕ, ◌<◌, Bool, true, false, length, arith, get_or, slice_get, Option, map, common_steps}
 use Rattle.halfbrown.proofs.Common.{length-keys_of, slice_get-get_or, slice_get-map, same_Some, IsDistinct, keys_of, found_index, index_of, StoreState, Work}
-use Rattle.halfbrown.proofs.Common.{Found, Vacancy, IsSearchCost, state_in, IsIndexOf, IsAbsent, KeySearch, State, contents_of}
-use Rattle.std.proofs.Common.{IfNone}
-use Rattle.half_store.specs.Reach.{reach, filling_reach}
-use Rattle.half_store.specs.Capacity.{buckets_of}
-use Rattle.half_store.specs.Work.{IsTableHitCost, work_after_missing}
+use Rattle.halfbrown.proofs.Common.{Found, Vacancy, IsSearchCost, state_in, IsIndexOf, IsAbsent, KeySearch, State, IsPlacedIn, IsVacancyIn}
 use Rattle.std.proofs.Props.{props}
-use Rattle.half_store.specs.Store.{IsPlaced, IsVacancy}
-use Rattle.half_store.specs.Table.{Contents, hit_reads_in, all_hit_reads_in}
 use Rattle.half_store.specs.declared.vecmap.search.Scan.{Scan}
 use Rattle.std.specs.Prelude.{Result}
-use Rattle.half_store.specs.Search.{StoreSearch, ComparesInOrder}
+use Rattle.half_store.specs.Search.{StoreSearch, IsStoreSearchCost}
 use Rattle.halfbrown.specs.Lookup.{IsMatch, HasNoMatch, MatchSearch}
 use Rattle.halfbrown.proofs.lemmas.pairs.Indices.{first_matched, index_of_first, none_at, absent_of_none}
-
-module _ {K V S : Type 0} (hash : S → K → ℕ) (wanted : ℕ) (m : State K V S) (before after : Work) where
-  -- what a search by a match costs, from what the store says of its work
-  pub match_costs : (is_vec : Bool) → m.is_vec ≡ is_vec → (scan : Scan) (index : Option ℕ) (hashes : List ℕ)
-      → (is_vec ≡ false → hashes ≡ map (hash m.builder) (keys_of m.pairs))
-      → (is_vec ≡ true → ComparesInOrder scan index (length m.pairs) before after)
-      → (is_vec ≡ false → IfSome index (λ _. IsTableHitCost hashes (buckets_of m.capacity) wanted before after))
-      → (is_vec ≡ false → IfNone index (after ≡ work_after_missing hashes (buckets_of m.capacity) wanted before))
-      → (is_vec ≡ false → IfSome index (λ at. after.looked ≡ before.looked + hit_reads_in (contents_of m) at))
-      → (is_vec ≡ false → all_hit_reads_in (contents_of m) (length hashes) ≡ filling_reach (buckets_of m.capacity) hashes)
-      → (is_vec ≡ false → reach hashes (buckets_of m.capacity) wanted ≤ length hashes + 1) → IsSearchCost hash wanted m index 0 before after
-  match_costs is_vec form scan index hashes is_map vector found missing hit hits near = grind (arith, common_steps, length-keys_of)
 
 module _ {K V S : Type 0} (hash : S → K → ℕ) (wanted own : ℕ) (m : State K V S) (before after : Work) (index : Option ℕ) where
   -- the costs under one hash are those under another that is the same in a table
@@ -36,22 +18,17 @@ module _ {K V S : Type 0} (hash : S → K → ℕ) (wanted own : ℕ) (m : State
 -- Vacancies for a pair: for which hash they are.
 
 -- a vacancy for one hash is one for another that is the same in a table
-pub vacancy_for : (is_vec : Bool) (contents : Contents) (hash other : ℕ) → (is_vec ≡ false → hash ≡ other) → (vacancy : Vacancy)
-    → IsVacancy is_vec contents hash vacancy → IsVacancy is_vec contents other vacancy
-vacancy_for is_vec contents hash other same vacancy vacant = grind (arith, common_steps)
+pub vacancy_for : {K V S : Type 0} (m : State K V S) (hash other : ℕ) → (m.is_vec ≡ false → hash ≡ other) → (vacancy : Vacancy)
+    → IsVacancyIn m hash vacancy → IsVacancyIn m other vacancy
+vacancy_for m hash other same vacancy vacant = grind (arith, common_steps)
 
 -- that a pair may be added here is one fact
-pub vacancy-prop : (is_vec : Bool) (contents : Contents) (hash : ℕ) (vacancy : Vacancy) → IsProp (IsVacancy is_vec contents hash vacancy)
-vacancy-prop is_vec contents hash vacancy = Prim.hlevel props
+pub vacancy-prop : {K V S : Type 0} (m : State K V S) (hash : ℕ) (vacancy : Vacancy) → IsProp (IsVacancyIn m hash vacancy)
+vacancy-prop m hash vacancy = Prim.hlevel props
 
 -- and that one is held here
-pub placed-prop : (is_vec : Bool) (contents : Contents) (found : Found) → IsProp (IsPlaced is_vec contents found)
-placed-prop is_vec contents found = Prim.hlevel props
-
--- it still is where form and buckets are as they were
-pub placed_as : (was is : Bool) (before after : Contents) (found : Found) → is ≡ was → after ≡ before → IsPlaced was before found
-    → IsPlaced is after found
-placed_as was is before after found form contents placed = grind (arith, common_steps)
+pub placed-prop : {K V S : Type 0} (m : State K V S) (found : Found) → IsProp (IsPlacedIn m found)
+placed-prop m found = Prim.hlevel props
 
 -- What a search by a match on keys says of a key, where the match is the test of one.
 
@@ -82,9 +59,14 @@ module _ {K V S : Type 0} (test : K → Bool) (returns : K → Bool → Type 0) 
     pub looks_up : (result : Result Found Vacancy) → MatchSearch returns hash wanted m result → KeySearch test own m result
     looks_up result found = grind (arith, common_steps, absent_of_no_match, index_of_match, vacancy_for)
 
-module _ {K V S : Type 0} (returns : K → Bool → Type 0) (hash : S → K → ℕ) (wanted : ℕ) (s : StoreState K V) (builder : S)
-    (hashed : s.is_vec ≡ false → s.hashes ≡ map (hash builder) (keys_of s.pairs)) where
+module _ {K V S : Type 0} (hash : S → K → ℕ) (wanted : ℕ) (s : StoreState K V) (builder : S)
+    (hashed : s.is_vec ≡ false → s.table.hashes ≡ map (hash builder) (keys_of s.pairs)) where
   -- a search of the store by the match is one of the map
-  pub matches_of : (result : Result Found Vacancy) → StoreSearch returns s wanted result
+  pub matches_of : (returns : K → Bool → Type 0) (result : Result Found Vacancy) → StoreSearch returns s wanted result
       → MatchSearch returns hash wanted (state_in s builder) result
-  matches_of result found = grind (arith, common_steps, same_Some, slice_get, slice_get-map)
+  matches_of returns result found = grind (arith, common_steps, same_Some, slice_get, slice_get-map)
+
+  -- and costs as much
+  pub match_costs : (scan : Scan) (index : Option ℕ) (before after : Work) → IsStoreSearchCost s wanted scan index before after
+      → IsSearchCost hash wanted (state_in s builder) index 0 before after
+  match_costs scan index before after cost = grind (arith, common_steps, length-keys_of)

@@ -8,10 +8,9 @@ use Rattle.half_store.specs.Store.{store_with_pairs}
 use Rattle.halfbrown.specs.Updates.{KeepsKeys}
 use Rattle.halfbrown.proofs.lemmas.map.Layout.{kept_keys, state_of}
 use Rattle.std.proofs.iter.runs.Sources.{from_front, as_is}
-use Rattle.std.specs.Iterator.{YieldsFirstRef}
 use Rattle.std.specs.Iterator.Runs.{YieldsMutRefsInOrder}
-use Rattle.std.specs.Map.Iter.{TakesFirst, ShowsValuesInOrder, GivesInOrder, LendsFirst, LendsValuesInOrder, deref_pair}
-use Rattle.halfbrown.specs.Iter.{pairs_left, column_left, IterSteps, ShowsPairsInOrder, ShowsColumnInOrder}
+use Rattle.std.specs.Map.Iter.{TakesFirst, ShowsInOrder, ShowsValuesInOrder, GivesInOrder, LendsFirst, LendsValuesInOrder, deref_pair}
+use Rattle.halfbrown.specs.Iter.{pairs_left, IterSteps, ShowsPairsInOrder}
 use Rattle.halfbrown.specs.Iter.{values_mut_left, ValuesMutSteps}
 
 module _ {K V : Type 0} where
@@ -70,9 +69,6 @@ module _ {X : Type 0} where
   pub gives_in_order : GivesInOrder X
   gives_in_order p s = as_is p p.from (from_front (TakesFirst (λ x. x)) (λ x. x) (λ s. s) (λ s t h. ap length h.0) (λ s x t h. h) p s)
 
-  pub shows_values_in_order : (K : Type 0) → ShowsValuesInOrder (λ (p : K × X). p)
-  shows_values_in_order K =
-      from_front (TakesFirst (λ p. p)) (λ p. p.1) values_of (λ s t h. ap (λ l. length (values_of l)) h.0) (λ s x t h. ap values_of h)
 
 module _ {S K V : Type 0} (left : S → List (K × V)) where
   pub lends_values_in_order : LendsValuesInOrder left
@@ -84,8 +80,12 @@ module _ {K V : Type 0} where
   pub values_lend_in_order : YieldsMutRefsInOrder (ValuesMutSteps {K = K} {V = V}) values_mut_left
   values_lend_in_order = from_front ValuesMutSteps (λ x. x.now) values_mut_left (λ s t h. h.0) (λ s x t h. h)
 
-pub shows_column_in_order : (T O : Type 0) → ShowsColumnInOrder T O
-shows_column_in_order T O = from_front (YieldsFirstRef column_left) (λ x. x.now) column_left (λ s t h. ap length h.0) (λ s x t h. h)
+pub shows_in_order : {A X : Type 0} (shows : A → X) → ShowsInOrder shows
+shows_in_order shows = from_front (TakesFirst shows) shows (λ s. s) (λ s t h. ap length h.0) (λ s x t h. h)
+
+pub shows_values_in_order : {A K X : Type 0} (shows : A → K × X) → ShowsValuesInOrder shows
+shows_values_in_order shows =
+    from_front (TakesFirst shows) (λ x. (shows x).1) values_of (λ s t h. ap (λ l. length (values_of l)) h.0) (λ s x t h. ap values_of h)
 
 module _ (K V : Type 0) where
   pub shows_pairs_in_order : ShowsPairsInOrder K V

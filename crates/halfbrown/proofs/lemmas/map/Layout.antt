@@ -27,7 +27,7 @@ module _ {K V : Type 0} where
   module _ (eq : K → K → Bool) (hash : K → ℕ) (limit : ℕ) where
     -- other pairs in the same form, with their hashes
     pub kept_as : (old new : StoreState K V) → IsMapInvariant limit eq hash old → SameFormAndCapacity old new → IsDistinct eq (keys_of new.pairs)
-        → length new.pairs ≤ old.capacity → (old.is_vec ≡ false → new.hashes ≡ map hash (keys_of new.pairs))
+        → length new.pairs ≤ old.capacity → (old.is_vec ≡ false → new.table.hashes ≡ map hash (keys_of new.pairs))
         → IsMapInvariant limit eq hash new
     kept_as old new kept keeps distinct fits hashed = grind (arith, common_steps)
 
@@ -57,18 +57,18 @@ module _ {K V : Type 0} where
     -- a pair is gone, the last one at its index
     pub kept_taken : IsEquivalence eq → (old new : StoreState K V) (i : ℕ) → IsMapInvariant limit eq hash old → SameFormAndCapacity old new
         → i < length old.pairs
-        → new.pairs ≡ swap_remove_at old.pairs i → (old.is_vec ≡ false → new.hashes ≡ swap_remove_at old.hashes i)
+        → new.pairs ≡ swap_remove_at old.pairs i → (old.is_vec ≡ false → new.table.hashes ≡ swap_remove_at old.table.hashes i)
         → IsMapInvariant limit eq hash new
     kept_taken laws old new i kept keeps within pairs hashes = grind (arith, common_steps, IsDistinct-swap_remove_at, kept_as, length-keys_of, length-swap_remove_at, map, map-swap_remove_at)
 
     -- no pairs
-    pub kept_none : (old new : StoreState K V) → IsMapInvariant limit eq hash old → SameFormAndCapacity old new → new.pairs ≡ [] → new.hashes ≡ []
+    pub kept_none : (old new : StoreState K V) → IsMapInvariant limit eq hash old → SameFormAndCapacity old new → new.pairs ≡ [] → new.table.hashes ≡ []
         → IsMapInvariant limit eq hash new
     unfolding IsDistinct
     kept_none old new kept keeps none no_hashes = grind (arith, common_steps)
 
     -- a new store
-    pub kept_made : (s : StoreState K V) → s.pairs ≡ [] → s.hashes ≡ [] → IsFormCapacity limit s.is_vec s.capacity
+    pub kept_made : (s : StoreState K V) → s.pairs ≡ [] → s.table.hashes ≡ [] → IsFormCapacity limit s.is_vec s.capacity
         → IsMapInvariant limit eq hash s
     unfolding IsDistinct
     kept_made s none no_hashes allowed = grind (arith, common_steps)
@@ -141,7 +141,7 @@ module _ {K : Type 0} (eq : K → K → Bool) (laws : IsEquivalence eq) where
       → new.is_vec ≡ old.is_vec → length new.pairs ≡ length old.pairs
       → AllZip (λ x y. eq x y ≡ true) (keys_of old.pairs) (keys_of new.pairs)
       → (old.is_vec ≡ false → map also_hash (keys_of new.pairs) ≡ map hash (keys_of old.pairs))
-      → new.capacity ≡ cond old.is_vec (length old.pairs) old.capacity → new.hashes ≡ old.hashes → IsMapInvariant limit eq also_hash new
+      → new.capacity ≡ cond old.is_vec (length old.pairs) old.capacity → new.table.hashes ≡ old.table.hashes → IsMapInvariant limit eq also_hash new
   kept_cloned hash also_hash limit old new kept form len alike hashed capacity hashes =
       let distinct = IsDistinct-zip (keys_of old.pairs) (keys_of new.pairs) alike kept.distinct in
       grind (arith, common_steps)
@@ -178,7 +178,7 @@ module _ {K V : Type 0} (eq : K → K → Bool) (laws : IsEquivalence eq) (hash 
       (λ table. refl)).distinct
 
   kept_moved : (is_vec : Bool) → old.is_vec ≡ is_vec → index < length old.pairs → (k : K) (v w : V) → slice_get old.pairs index ≡ Some (k, v)
-      → new.pairs ≡ kept_pairs is_vec old.pairs index k w → new.hashes ≡ old.hashes → IsMapInvariant limit eq hash new
+      → new.pairs ≡ kept_pairs is_vec old.pairs index k w → new.table.hashes ≡ old.table.hashes → IsMapInvariant limit eq hash new
   kept_moved true vector within k v w at is stays =
       let shorter = length-swap_remove_at old.pairs index (omega (arith, within)) in
       kept_as eq hash limit old new kept keeps (subst (λ ps. IsDistinct eq (keys_of ps)) (sym is) (moved_distinct vector within k v w at))
@@ -189,7 +189,7 @@ module _ {K V : Type 0} (eq : K → K → Bool) (laws : IsEquivalence eq) (hash 
   -- the fields once the closure has answered
   pub kept_replaced : {returns : Bor K → V → Option V → Type 0} → index < length old.pairs → (result : Result Found (K × ℕ))
       → ReplacesValue returns old.is_vec old.pairs index new.pairs (option_map (λ removed. removed.0) (result_err result))
-      → IfErr result (λ _. old.is_vec ≡ false → new.hashes ≡ swap_remove_at old.hashes index) → OnOk result (new.hashes ≡ old.hashes)
+      → IfErr result (λ _. old.is_vec ≡ false → new.table.hashes ≡ swap_remove_at old.table.hashes index) → OnOk result (new.table.hashes ≡ old.table.hashes)
       → IsMapInvariant limit eq hash new
   kept_replaced within (Ok at) r lost stays =
       let kept = value_kept r in kept_moved old.is_vec refl within r.key r.value kept.0 r.pair kept.2 stays
@@ -197,7 +197,7 @@ module _ {K V : Type 0} (eq : K → K → Bool) (laws : IsEquivalence eq) (hash 
 
   -- the hash that comes back with a key is its own
   pub own_hash : {returns : Bor K → V → Option V → Type 0} → (result : Result Found (K × ℕ)) → ReplacesValue returns old.is_vec old.pairs index new.pairs (option_map (λ removed. removed.0) (result_err result))
-      → IfErr result (λ removed. old.is_vec ≡ false → slice_get old.hashes index ≡ Some removed.1)
+      → IfErr result (λ removed. old.is_vec ≡ false → slice_get old.table.hashes index ≡ Some removed.1)
       → IfErr result (λ removed. new.is_vec ≡ false → removed.1 ≡ hash removed.0)
   own_hash (Ok i) r at = tt
   own_hash (Err removed) r at = grind (arith, common_steps, hash_at hash old.pairs index r.key r.value r.pair, lost_pair r)

@@ -3,32 +3,31 @@ use Rattle.std.specs.Prelude.{◌≡◌, ◌≤◌, ℕ, Bool, true, List, [], l
 use Rattle.halfbrown.specs.Ghosts.{EqGhosts, HashGhosts, HasherGhosts, LimitGhosts}
 use Rattle.std.specs.List.{IsDistinct, IsDistinct-prop}
 use Rattle.half_store.specs.FormerNames.{keys_of, values_of, entry, on_value, entries_puts, entries_recoded, keys_on_values, values_listed, Former, children}
-use Rattle.half_store.specs.FormerNames.{const, list, pair, this, via, refl, sym, ap, subst, ◌∙◌, ℕ_set, length-map, gcons, coded×, coded_ℕ, coded_bool}
+use Rattle.half_store.specs.FormerNames.{const, list, pair, this, via, refl, sym, ap, subst, ◌∙◌, ℕ_set, length-map, gcons, coded_ℕ}
 use Rattle.half_store.specs.FormerNames.{coded_list, Coded-set, RattleType, listed, over, Alike, Recodes, struct_places, laid, view_places, Weighed, most}
 use native.Mathlib.Bridge.{le_prop}
-use Rattle.half_store.specs.Store.{StoreState}
-use Rattle.half_store.specs.Table.{Contents, contents_code, no_contents}
+use Rattle.half_store.specs.Columns.{no_pairs}
+use Rattle.half_store.specs.Store.{StoreState, vector_of}
 use Rattle.half_store.specs.formers.store.Store as store
 use Rattle.half_store.specs.HashMapFormer.{entries_eq-map}
 use Rattle.halfbrown.specs.Equality.{same_pairs}
 use Rattle.halfbrown.specs.Layout.{IsMapInvariant}
-use Rattle.halfbrown.specs.State.{State, make_state, contents_of}
+use Rattle.halfbrown.specs.State.{State, state_in, store_in}
 use Rattle.halfbrown.specs.declared.map.LimitedHashMap.TheInside.{Inside}
 use Rattle.halfbrown.specs.declared.map.LimitedHashMap.TheView.{view, invariant}
 use Rattle.halfbrown.specs.contracts.map.LimitedHashMap as C
 use Rattle.halfbrown.specs.contracts.map.LimitedHashMap.TheInside as I
 
 abbrev pub the_former : Former {0} → Type 0 → Type 0 → Type 0 → Type 0 → Former {0}
-the_former g K S L T = via (pair (const Bool) (pair (list (entry g K)) (const (ℕ × (S × Contents))))) (λ X. State K (g.Of X) S)
-    (λ X m. (m.is_vec, (m.pairs, (m.capacity, (m.builder, contents_of m)))))
-    (λ X v. make_state v.0 v.1.0 v.1.1.0 v.1.1.1.0 v.1.1.1.1) (λ X m. refl) (λ X v. refl)
+the_former g K S L T = via (pair (store.the_former g K) (const S)) (λ X. State K (g.Of X) S) (λ X m. (store_in m, m.builder))
+    (λ X v. state_in v.0 v.1) (λ X m. refl) (λ X v. refl)
 
 abbrev pub the_weighed : {g : Former {0}} → Weighed g → (K S L T : Type 0) → Weighed (the_former g K S L T)
 the_weighed w K S L T =
     record { weight = λ X μ m. most (w.weight X μ) (values_of m.pairs); puts = λ X μ m. entries_puts w K X μ m.pairs }
 
 pub the_empty : (K S L T : Type 0) → K → S → L → T → State K ⊥ S
-the_empty K S L T k s l t = make_state true [] 0 s no_contents
+the_empty K S L T k s l t = state_in (vector_of no_pairs) s
 
 abbrev pub the_items : (K S L T X : Type 0) → State K X S → List X
 the_items K S L T X m = values_of m.pairs
@@ -88,10 +87,7 @@ module _ (K S L T : RattleType) (G : EqGhosts K.Denot) (H : HashGhosts K.Denot) 
 
   pub the_codes_placed : Recodes R R' h
       → Recodes (C.the_row K R S L T G H B Z) (C.the_row K R' S L T G H B Z) (former.map R.Denot R'.Denot h)
-  the_codes_placed e m =
-      let code = coded× coded_ℕ (coded× S.coded contents_code) in
-      let rest = code.code (m.capacity, (m.builder, contents_of m)) in
-      ap (λ x. gcons (coded_bool.code m.is_vec) (gcons x rest)) (entries_recoded K R R' h e m.pairs)
+  the_codes_placed e m = ap (λ x. gcons x (S.coded.code m.builder)) (store.the_codes_placed K R R' h e (store_in m))
 
 pub ruleset naturals = (entries_eq-map, refl)
 

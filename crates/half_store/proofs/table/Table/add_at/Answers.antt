@@ -1,5 +1,5 @@
 use Rattle.half_store.proofs.Common.{◌≡◌, length, ◌+◌, ◌∙◌, arith, ◌<◌, suc, sym, ap, subst, set, length-set, capacity_of, IsSlotVacancy, state_of_words}
-use Rattle.half_store.proofs.Common.{table_contents, AreWordsFor, words_of}
+use Rattle.half_store.proofs.Common.{AreWordsFor, words_of}
 use Rattle.half_store.specs.Table.{table_slots, with_hash_in}
 use Rattle.half_store.proofs.lemmas.table.Layout.{IsIndexed-add, IsTable-as, count_seen}
 use Rattle.half_store.proofs.table.Table.add_at.Goals as goal
@@ -21,8 +21,8 @@ invariant_of-self c =
     (IsIndexed-add x.indexed bucket c.args.hash w few) (subst (AreWordsFor _) (sym same) x.sized)
     (omega (arith, same, x.exact, c.push_reserved.ensures.capacity))
 
-pub returns-clause-contents : goal.returns-clause-contents
-returns-clause-contents c =
+pub returns-clause-after : goal.returns-clause-after
+returns-clause-after c =
     let t = c.self.inside in
     let words = words_of t.buckets in
     let hash = c.args.hash in
@@ -30,5 +30,4 @@ returns-clause-contents c =
     let index : c.len-word.result + 1 ≡ suc (length t.hashes.items) =
     omega (arith, ap (λ v. length v.hashes) c.self.view_is, c.len-word.ensures.value) in
     let written = c.set_word.ensures.words ∙ ap (set words bucket) index in
-    (λ i. table_contents (state_of_words (c.push_reserved.ensures.items i) (written i)))
-    ∙ ap (λ v. with_hash_in (table_contents v) hash bucket) c.self.view_is
+    (λ i. state_of_words (c.push_reserved.ensures.items i) (written i)) ∙ ap (λ v. with_hash_in v hash bucket) c.self.view_is

@@ -1,4 +1,4 @@
-use Rattle.halfbrown.proofs.Common.{arith, slice_get, common_steps, same_Some, contents_of}
+use Rattle.halfbrown.proofs.Common.{arith, slice_get, common_steps, same_Some}
 use Rattle.std.proofs.Math.Logic.{∥∥₁_elim}
 use Rattle.halfbrown.specs.EntryView.{with_value}
 use Rattle.halfbrown.proofs.lemmas.pairs.Changes.{set_value_at-last, value-last}
@@ -9,8 +9,7 @@ pub push-added-requires-clause-vacant : goal.push-added-requires-clause-vacant
 push-added-requires-clause-vacant g c =
     let v = c.args.self in
     let m = v.map.now in
-    ∥∥₁_elim v.vacant (vacancy-prop m.is_vec (contents_of m)
-    (g.S.KeyHasher.hash m.builder v.key) v.vacancy) (λ known. known)
+    ∥∥₁_elim v.vacant (vacancy-prop m (g.S.KeyHasher.hash m.builder v.key) v.vacancy) (λ known. known)
 
 pub returns : goal.returns
 unfolding with_value

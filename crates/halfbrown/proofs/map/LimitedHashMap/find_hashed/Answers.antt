@@ -20,9 +20,8 @@ returns g c =
     g.K.PartialEq.eq (g.met.Q.Equivalent.stands_for_equals c.args.key) hashing c.args.hash was c.self.invariant.distinct own known
     (λ k passes. g.met.S.KeyHasher.hash_is builder k
     ∙ ap (g.S.KeyHasher.hash_writes builder) (sym (g.met.Q.Equivalent.hashes_alike c.args.key k passes)))
-    c.find.result (matches_of _ hashing c.args.hash store builder c.self.invariant.hashed c.find.result told.found) in
-    let spent = match_costs hashing c.args.hash was c.args.tally.now c.find.new.tally store.is_vec (λ i. store.is_vec)
-    c.args.scan (found_index c.find.result) store.hashes c.self.invariant.hashed told.cost.vector told.cost.found told.cost.missing told.cost.hit told.cost.hits told.cost.short in
+    c.find.result (matches_of hashing c.args.hash store builder c.self.invariant.hashed _ c.find.result told.found) in
+    let spent = match_costs hashing c.args.hash store builder c.self.invariant.hashed _ _ _ _ told.cost in
     record {
       found = subst (λ (m : State g.row.K.Denot g.row.V.Denot g.row.S.Denot). KeySearch test
           (g.S.KeyHasher.hash_writes m.builder (g.Q.Hash.hash_input c.args.key)) m c.find.result) c.self.view_is found;

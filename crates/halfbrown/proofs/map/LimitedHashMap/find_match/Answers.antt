@@ -1,5 +1,4 @@
 use Rattle.halfbrown.proofs.Common.{arith, subst, common_steps, found_index, IsSearchCost, state_in, State}
-use Rattle.half_store.specs.declared.vecmap.search.Scan.TheVariants.{ByKey}
 use Rattle.halfbrown.proofs.lemmas.map.Find.{match_costs, matches_of}
 use Rattle.halfbrown.proofs.map.LimitedHashMap.find_match.Goals as goal
 
@@ -9,11 +8,6 @@ returns-clause-found g c = grind (arith, common_steps, matches_of)
 pub returns-clause-cost : goal.returns-clause-cost
 returns-clause-cost g c =
     let hashing = g.S.KeyHasher.hash in
-    let store = c.self.inside.store in
-    let told = c.find.ensures in
     subst (λ (m : State g.row.K.Denot g.row.V.Denot g.row.S.Denot). IsSearchCost hashing c.args.hash m (found_index c.find.result) 0
     c.args.tally.now c.find.new.tally) c.self.view_is
-    (match_costs hashing c.args.hash (state_in store c.self.inside.builder) c.args.tally.now c.find.new.tally store.is_vec
-    (λ i. store.is_vec) ByKey (found_index c.find.result) store.hashes
-    c.self.invariant.hashed told.cost.vector told.cost.found
-    told.cost.missing told.cost.hit told.cost.hits told.cost.short)
+    (match_costs hashing c.args.hash c.self.inside.store c.self.inside.builder c.self.invariant.hashed _ _ _ _ c.find.ensures.cost)

@@ -1,4 +1,4 @@
-use Rattle.halfbrown.proofs.Common.{ap, ◌∙◌, sym, holds, contents_of}
+use Rattle.halfbrown.proofs.Common.{ap, ◌∙◌, sym, holds}
 use Rattle.halfbrown.proofs.lemmas.map.Growth.{form_stays}
 use Rattle.halfbrown.proofs.lemmas.pairs.Indices.{absent_of_unheld}
 use Rattle.halfbrown.proofs.lemmas.map.Find.{vacancy_for}
@@ -16,7 +16,7 @@ returns-clause-vacancy g c =
       absent = absent_of_unheld (eq key) now.pairs
           (ap (λ ps. holds eq ps key) (prepared.prepares.ok.pairs ∙ c.in_ok-switch_if_full.ensures.prepares.ok.pairs) ∙ c.requires);
       capacity = prepared.capacity;
-      vacant = vacancy_for now.is_vec (contents_of now) c.hash_in_table-hash.result (hash now.builder key)
+      vacant = vacancy_for now c.hash_in_table-hash.result (hash now.builder key)
           (λ form.
           c.hash_in_table-hash.ensures.hash
           (form_stays opened.is_vec _ c.in_ok-switch_if_full.ensures.not_full ∙ sym prepared.prepares.ok.form ∙ form)

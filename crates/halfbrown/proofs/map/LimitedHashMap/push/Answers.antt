@@ -1,4 +1,4 @@
-use Rattle.halfbrown.proofs.Common.{◌<◌, length, arith, ap, sym, subst, IsMapInvariant, IsAbsent, contents_of}
+use Rattle.halfbrown.proofs.Common.{◌<◌, length, arith, ap, sym, subst, IsMapInvariant, IsAbsent, IsVacancyIn}
 use Rattle.half_store.specs.Store.{IsVacancy}
 use Rattle.halfbrown.proofs.lemmas.pairs.Indices.{absent_of_unheld}
 use Rattle.halfbrown.proofs.lemmas.map.Layout.{kept_pushed, state_of}
@@ -16,8 +16,8 @@ invariant_of-self g c =
     (absent_of_unheld (eq key) c.args.self.now.pairs c.requires.absent) in
     let room : length store.pairs < store.capacity =
     omega (arith, c.requires.capacity, ap length (ap (λ m. m.pairs) c.self.view_is), ap (λ m. m.capacity) c.self.view_is) in
-    let vacant : IsVacancy store.is_vec store.contents (hash key) vacancy =
-    subst (λ m. IsVacancy m.is_vec (contents_of m) (g.S.KeyHasher.hash m.builder key) vacancy)
+    let vacant : IsVacancy store (hash key) vacancy =
+    subst (λ m. IsVacancyIn m (g.S.KeyHasher.hash m.builder key) vacancy)
     (sym c.self.view_is) c.requires.vacant in
     subst (IsMapInvariant g.L.Limit.LIMIT eq hash) (sym c.push.ensures.after)
     (kept_pushed eq hash g.L.Limit.LIMIT g.met.K.Eq.laws store key c.args.value vacancy c.self.invariant absent room

@@ -1,4 +1,4 @@
-use Rattle.halfbrown.proofs.Common.{ap, ◌∙◌}
+use Rattle.halfbrown.proofs.Common.{◌≡◌, false, subst}
 use Rattle.halfbrown.specs.RawEntry.{prepared_map}
 use Rattle.halfbrown.proofs.lemmas.raw_entry.Methods.{finds_held, finds_none}
 use Rattle.halfbrown.proofs.raw_entry.RawEntryBuilderMut.from_key_hashed_nocheck_counted.Goals as goal
@@ -19,4 +19,7 @@ returns-in-Err-clause-cost g c = rw c.self-1.given.1 c.in-Err.ensures.cost
 
 pub find_hashed-requires : goal.find_hashed-requires
 find_hashed-requires g c =
-    record { known = λ table. c.requires ∙ ap (λ r. g.S.KeyHasher.hash_writes (prepared_map r).builder (g.Q.Hash.hash_input c.args.key)) c.self-1.given.1 }
+    record {
+      known = subst (λ r. (prepared_map r).is_vec ≡ false → c.args.hash ≡ g.S.KeyHasher.hash_writes (prepared_map r).builder (g.Q.Hash.hash_input c.args.key))
+          c.self-1.given.1 c.requires;
+    }

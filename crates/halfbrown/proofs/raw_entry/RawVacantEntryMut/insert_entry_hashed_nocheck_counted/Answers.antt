@@ -4,7 +4,7 @@ use Rattle.halfbrown.proofs.lemmas.raw_entry.Methods.{adds_pair}
 use Rattle.halfbrown.proofs.raw_entry.RawVacantEntryMut.insert_entry_hashed_nocheck_counted.Goals as goal
 
 pub push-index-requires-clause-vacant : goal.push-index-requires-clause-vacant
-push-index-requires-clause-vacant g c = vacancy_for _ _ _ _ c.requires.hash _ c.vacancy_for-vacancy.ensures.vacant
+push-index-requires-clause-vacant g c = vacancy_for c.args.self.map.now _ _ c.requires.hash _ c.vacancy_for-vacancy.ensures.vacant
 
 pub invariant_of-result : goal.invariant_of-result
 invariant_of-result g c = record {

@@ -10,7 +10,7 @@ returns g c =
         (λ j. zip (c.into_iter.ensures.rest j) (c.into_iter-2.ensures.rest j)) ∙ (λ j. zip (columns.keys j) (columns.values j)) ∙ zip_columns c.args.self.pairs,
         columns.small,
         gives_in_order,
-        shows_values_in_order g.row.K.Denot,
+        shows_values_in_order (λ pair. pair),
         columns.valid,
       );
     }
