@@ -5,14 +5,16 @@ import bisect
 import collections
 import itertools
 
-from model.basics import ALL, GREATEST, MOST_PAIRS, RULES, Key
-from model.coverage import COMPARING, STATES
+from model.basics import ALL, GREATEST, MANY, MOST_PAIRS, RULES, Key
 from model.lines import CALLS, COMMANDS, LIMITS, MAKERS_FOR, OF_NUMBERS, OTHER_LIMITS, PLAIN_MAKERS
 from model.lines import WITH_NUMBERS, WITH_TEXT, places_of
 from model.session import Session
 from model.walk import steps_of
 
 LINES = 200
+# A tight vector has room for no pair, and fewer pairs than its limit; a full one has as many. One that went back was a table.
+STATES = ("vec", "tight vec", "full vec", "table", "full table", "went back", MANY)
+COMPARING = ("same", "eq", "same_as LIMIT RULE", "same_from LIMIT RULE")
 # Some limits, rules and states are chosen more often than others.
 OFTEN = (5, 5, 2, 3, 20, 32, 32, 64)
 FIRST_LINES = [(kind, limit) for kind in LIMITS for limit in (*LIMITS[kind], *(it for it in OFTEN if it in LIMITS[kind]))]

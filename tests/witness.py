@@ -5,12 +5,10 @@
 
 The scripts are in the language of docs/SCRIPTS.md. Beside each answer its work, its drops and its memory are compared;
 allocator.c refuses all requests of `refused` calls, or in some scripts one of each. Where a script differs, lines
-are taken out as long as it still differs, and what is left is printed with both answers. A table says how often each call
-was met and refused, and what model/coverage.py demands has to be met, except by fewer than 600 scripts. The last line is
-"N passed, M failed": the scripts, and what is demanded.
+are taken out as long as it still differs, and what is left is printed with both answers. The last line is
+"N passed, M failed".
 """
 
-import collections
 import functools
 import os
 import random
@@ -20,7 +18,6 @@ import time
 from concurrent.futures import ProcessPoolExecutor
 
 from model.basics import ALL
-from model.coverage import COLUMNS, MET, demanded
 from model.session import NO_LINE, answers
 from random_scripts import make_script
 from scripts import PROGRAM, agrees, compile_allocator, play
@@ -69,20 +66,9 @@ def script_of(seed, index):
 
 
 def try_script(seed, player, index):
-    """Whether a script differs, and what it meets."""
+    """Whether a script differs."""
     script = script_of(seed, index)
-    found = player(script.lines, refuse=script.refuse)
-    return difference(found, script.wanted) is not None, collections.Counter(script.session.met)
-
-
-def print_met(met):
-    """Prints a row of each call, and what is met in any state."""
-    print(" " * 34 + "".join(f"{column:>11}" for column in COLUMNS))
-    for name in sorted({name for name, column in met if column in COLUMNS}):
-        print(f"{name:<34}" + "".join(f"{met[name, column] or '.':>11}" for column in COLUMNS))
-    others = [f"{name:<32}{met[name, MET]:>6}" for name, column in sorted(met) if column == MET]
-    for index in range(0, len(others), 3):
-        print("   ".join(others[index : index + 3]))
+    return difference(player(script.lines, refuse=script.refuse), script.wanted) is not None
 
 
 def main(count=SCRIPTS, seed=1):
@@ -93,23 +79,15 @@ def main(count=SCRIPTS, seed=1):
     with tempfile.TemporaryDirectory() as folder, ProcessPoolExecutor(os.cpu_count()) as pool:
         player = functools.partial(play, library=compile_allocator(folder))
         tried = list(pool.map(functools.partial(try_script, seed, player), range(count)))
-        met = sum((it for _, it in tried), collections.Counter())
-        print_met(met)
-        demands = demanded(met) if count >= SCRIPTS else []
-        missed = [demand for demand in demands if not met[demand]]
-        for name, column in missed:
-            print(f"never met: {name} ({column})")
-        failed = [index for index, (is_other, _) in enumerate(tried) if is_other]
+        failed = [index for index, is_other in enumerate(tried) if is_other]
         print(f"{count} scripts in {time.monotonic() - began:.1f} s; these differ: {failed or 'none'}")
-        if not demands:
-            print(f"what they met is not judged, since they are fewer than {SCRIPTS}")
         # The first ones are long.
         for index in failed[-MOST_SHOWN:]:
             script = script_of(seed, index)
             of_each = "" if script.refuse == ALL else f", request {script.refuse[0]} refused"
             print(f"script {index} of seed {seed}{of_each}, made short:")
             report(shortest(script.lines, script.refuse, player), script.refuse, player)
-    return len(tried) + len(demands) - len(failed) - len(missed), len(failed) + len(missed)
+    return len(tried) - len(failed), len(failed)
 
 
 if __name__ == "__main__":

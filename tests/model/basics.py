@@ -74,16 +74,10 @@ class Work:
     granted: int = 0
     peak: int = 0
     most_peak: int = 0
-    # Which request was refused last.
-    refused_at: int = 0
     # How often the closure was called that the line hands in.
     called: int = 0
     # How many pairs were cloned.
     cloned: int = 0
-    # The commands of a run, each with whether its key is held, and the states in which it is made.
-    commands: list = dataclasses.field(default_factory=list)
-    # For which reasons something was refused.
-    refusals: set = dataclasses.field(default_factory=set)
 
     def __str__(self):
         return f"{self.hashes} {span(self.least, self.most)}"
@@ -108,8 +102,7 @@ class Work:
             self.granted += in_all
             self.peak = max(self.peak, self.granted)
             return True
-        self.requests = self.refused_at = first
-        self.refusals.add("memory")
+        self.requests = first
         return False
 
     def request(self, count, in_all):
@@ -127,9 +120,7 @@ class Work:
     def check_size(self, pairs):
         """Of as many pairs as there may be, no column fits into an allocation, and no request is made."""
         if pairs >= MOST_PAIRS:
-            why = "size" if pairs > MOST_PAIRS else "memory"
-            self.refusals.add(why)
-            raise Refused(why)
+            raise Refused("size" if pairs > MOST_PAIRS else "memory")
 
 
 def text_of(is_true):

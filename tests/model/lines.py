@@ -66,10 +66,6 @@ def places_of(pattern):
     return pattern.removesuffix(" *").split(" ")
 
 
-def is_on_a_key(pattern):
-    return not {"KEY", "QUERY", "WHICH"}.isdisjoint(places_of(pattern))
-
-
 def name_of(words):
     """What tells a call from others: its first word, and of some what is done with them."""
     if words[0] in ("entry", "raw"):

@@ -35,7 +35,7 @@ class Map:
         return f"{'vec' if self.is_vec else 'map'} {len(self.pairs)} {self.capacity}"
 
     def state(self):
-        """The form, as coverage.py tells forms apart."""
+        """The form, as the random scripts tell forms apart."""
         if self.has_gone_back:
             return "went back"
         if self.is_vec:

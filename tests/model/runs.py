@@ -1,7 +1,7 @@
 """The line `run`: commands, which are handed `a` and what each says, and their replies."""
 
 from model.all_pairs import clear
-from model.basics import Key, Pair, Refused, list_of, text_of
+from model.basics import Pair, Refused, list_of, text_of
 from model.map import Map
 from model.one_key import by
 
@@ -33,8 +33,6 @@ COMMANDS = {
 
 def reply(a, command, said):
     """A command that is refused comes back as it was written."""
-    is_held = any(a.holds(it) for it in said if isinstance(it, Key))
-    a.work.commands.append((command, is_held, a.states()))
     try:
         return COMMANDS[command](a, *said) or "done"
     except Refused as why:

@@ -1,7 +1,6 @@
-"""A script on the model, line by line: what each line is answered, and what it meets."""
+"""A script on the model, line by line."""
 
 from model.basics import ALL, GREATEST, NONE, BadLine, Pair, Refused, Work
-from model.coverage import MET, answered_by, met_by
 from model.lines import BYTES, CALLS, CALLS_ON_A, WITH_TEXT, keys_in, read_call, read_first
 from model.map import Map
 
@@ -23,8 +22,6 @@ class Session:
 
     def __init__(self, refuse=ALL):
         self.refuse, self.kind, self.a, self.b = refuse, None, None, None
-        # Pairs of what was met and where, as in coverage.py.
-        self.met = []
 
     def answer(self, line):
         try:
@@ -37,11 +34,9 @@ class Session:
         self.kind, limit, rule, capacity = read_first(line)
         try:
             self.a, self.b = Map(limit, rule, capacity), Map(limit, rule)
-            met, answer = MET, f"made | 0 0 | {self.a} | dropped 0 0"
+            return f"made | 0 0 | {self.a} | dropped 0 0"
         except Refused as why:
-            met, answer = str(why), f"refused {why}"
-        self.met.append((f"{self.kind} {limit}", met))
-        return answer
+            return f"refused {why}"
 
     def held(self):
         return len(self.a.pairs) + len(self.b.pairs)
@@ -49,13 +44,12 @@ class Session:
     def answer_call(self, line):
         call = read_call(line, self.kind)
         work = self.a.work = self.b.work = Work(self.refuse if call.is_refused else NONE, *BYTES[self.kind])
-        met, held = met_by(call, self.a), self.held()
+        held = self.held()
         try:
             answer = CALLS[call.pattern](self.a if call.pattern in CALLS_ON_A else self, *call.said)
             answer = "done" if answer is None else str(answer)
         except Refused as why:
             answer = refusal_of(call, why)
-        self.met += met + answered_by(call, met, self, answer)
         gone = held + work.cloned - self.held()
         dropped = f"dropped {keys_in(call.said) + gone} {call.values() + gone if self.kind == 'owning' else 0}"
         called = f" | called {work.called}" if call.pattern.endswith(" *") else ""
