@@ -88,16 +88,14 @@ impl<R: Print, K: Named, V: Number, S: Ruled, L: Limit> Player<'_, R, K, V, S, L
         match call {
             "remove_entry_hashed" => of_removed(map.remove_entry_hashed_nocheck(hash, query)),
             "raw_entry_hashed" => of_pair(map.raw_entry().from_key_hashed_nocheck(hash, query)),
-            "raw_find_hashed" => or_refused(self.raw_find_hashed(hash, query)),
+            "raw_find_hashed" => or_refused(self.raw_find_hashed(query)),
             _ => words.no_call(),
         }
     }
 
-    fn raw_find_hashed<Q: Equivalent<K>>(
-        &mut self,
-        hash: u64,
-        query: Q,
-    ) -> Result<Answer, Refusal> {
+    fn raw_find_hashed<Q: Equivalent<K>>(&mut self, query: Q) -> Result<Answer, Refusal> {
+        let hash = self.a.hasher().hash_one(query);
+        self.counts.take_work();
         Ok(of_found(self.a.raw_entry_mut()?.from_key_hashed_nocheck(hash, query)))
     }
 
