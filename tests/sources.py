@@ -53,7 +53,7 @@ RULES = (
     ("Counted work is done, and a pair is probed for, in these places.", "36 72 0 0 0 8 0 0", rf"\b(?:{WORK}|read|\w+_counted)\("),
     ("What does work is called by its name alone: nothing, or a helper's types, stands between that and its bracket.", "10 6 0 0 0 0 0 0",
      rf"(?<!mod )\b(?:{WORK})\b(?!\()|[.:]read\b(?!\()|[=(,:] ?(?=\w+_)(?:HELPER)\b(?!(?:::<[^()]*>)?\()|[\w>]::[a-z]\w*(?![\w:(!])"),
-    ("What no user can call, and what goes through a text or a map, is called in these places.", "108 77 7 5 22 14 5 25",
+    ("What no user can call, and what goes through a text or a map, is called in these places.", "108 79 7 5 22 14 5 25",
      r"(?<!fn )\b(?:HELPER|count_words|report|pointer|parse|from_utf8|flush|into|move_to|retain)(?:::<[^()]*>)?\("),
     ("The words of buckets are read by `word_at` alone.", "43 0 0 0 0 0 0 0", r"(?<!mod )\bwords\b"),
     ("An allocator is named `alloc`.", "1 1 0 1 0 0 0 0", r"(?<!\balloc: )\bGlobal\b"),
@@ -61,7 +61,7 @@ RULES = (
      r"\balloc(?:ator)?\b|\b(?:clone_all|copy_all|grow\w*)\(|\bBox::\w|\bwrite(?:ln)?!|[.:](?:push\w*|reserve\w*|extend\w*|append"
      r"|resize\w*|clone\w*|cop(?:y|ied)|collect|with_cap\w*|shrink_to\w*|from_[as]\w+|to_[osv]\w+|new_table"
      r"|for_(?:pairs|buckets)|memory_alike)\b"),
-    ("A refusal is made, handed on or looked at in these places.", "31 42 0 2 30 6 10 22",
+    ("A refusal is made, handed on or looked at in these places.", "31 40 0 2 30 6 10 22",
      r"\bErr\b|\b(?:Refusal|Error|Declined|Failure)::\w|\b(?:AllocError|Stopped|NoRoom)\b(?!>)|\b(?:check_size|ok_or)\w*\("),
     ("Where no clause says when a call fails, these words do: memory was refused, counts differ, u64 ends.", "0 3 0 1 0 0 0 2",
      r"let Ok\((?:mut )?\w+\) = Vec::\w+\(alloc, [\w.()]+\) else \{ return Err\("
