@@ -2,12 +2,11 @@
 use Rattle.std.specs.Prelude.{◌≡◌, ℕ, ◌+◌, ◌<◌, ◌≤◌, Bool, true, false, List, length, slice_get, Option, Some, None, IfSome, IfNone, Result, Ok, Err, ◌-◌, slice_index}
 use Rattle.std.specs.Map.{keys_of}
 use Rattle.half_store.specs.Capacity.{buckets_of}
-use Rattle.half_store.specs.Work.{IsTableHitCost, work_after_missing, Work, first_match_cost}
-use Rattle.half_store.specs.Reach.{reach, filling_reach}
+use Rattle.half_store.specs.Work.{Work, first_match_cost}
 use Rattle.half_store.specs.declared.vecmap.search.Scan.{Scan}
 use Rattle.half_store.specs.declared.vecmap.search.Scan.TheVariants.{ByKey}
 use Rattle.half_store.specs.Store.{StoreState, Found, Vacancy, IsPlaced, IsVacancy}
-use Rattle.half_store.specs.Table.{hit_reads_in, all_hit_reads_in}
+use Rattle.half_store.specs.Table.{IsTableSearchCost}
 use Rattle.std.specs.Borrow.{Bor}
 use Rattle.half_store.specs.Slots.{slots_from, slot_at}
 
@@ -57,14 +56,11 @@ pub record ComparesInOrder (scan : Scan) (found : Option ℕ) (len : ℕ) (befor
   pub by_key : scan ≡ ByKey → after.compared ≡ before.compared + first_match_cost found len
   pub looked : after.looked ≡ before.looked
 
--- what a search of a store under this hash cost that found this index, or none; of a table it also says what such searches of all pairs read
+-- what a search of a store under this hash cost that found this index, or none
 pub record IsStoreSearchCost {K V : Type 0} (s : StoreState K V) (hash : ℕ) (scan : Scan) (index : Option ℕ) (before after : Work) : Type 0 where
   pub vector : s.is_vec ≡ true → ComparesInOrder scan index (length s.pairs) before after
-  pub found : s.is_vec ≡ false → IfSome index (λ _. IsTableHitCost s.table.hashes (buckets_of s.capacity) hash before after)
-  pub hit : s.is_vec ≡ false → IfSome index (λ at. after.looked ≡ before.looked + hit_reads_in s.table at)
-  pub hits : s.is_vec ≡ false → all_hit_reads_in s.table (length s.table.hashes) ≡ filling_reach (buckets_of s.capacity) s.table.hashes
-  pub missing : s.is_vec ≡ false → IfNone index (after ≡ work_after_missing s.table.hashes (buckets_of s.capacity) hash before)
-  pub short : s.is_vec ≡ false → reach s.table.hashes (buckets_of s.capacity) hash ≤ length s.table.hashes + 1
+  pub table : s.is_vec ≡ false → IsTableSearchCost s.table hash index before after
+  pub buckets : s.is_vec ≡ false → s.table.buckets ≡ buckets_of s.capacity
 
 -- each of these keys
 abbrev pub CallableOnKeys : {K : Type 0} → (Bor K → Type 0) → List K → Type 0

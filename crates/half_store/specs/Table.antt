@@ -1,5 +1,5 @@
 -- The value of a table, how its fields make it, what a search of it finds and costs, and what a removal does.
-use Rattle.std.specs.Prelude.{ℕ, suc, List, [], ◌∷◌, ◌++◌, length, Option, Some, slice_set, slice_index, ◌≡◌, ◌≢◌, ◌<◌, ◌≤◌, None, ◌+◌, Bool, true, false, slice_get, vec_capacity, Result, IfOk, IfErr, OnErr}
+use Rattle.std.specs.Prelude.{ℕ, suc, List, [], ◌∷◌, ◌++◌, length, Option, Some, slice_set, slice_index, ◌≡◌, ◌≢◌, ◌<◌, ◌≤◌, None, ◌+◌, Bool, true, false, slice_get, vec_capacity, IfSome, IfNone, Result, IfOk, IfErr, OnErr}
 use Rattle.std.specs.Coded.{Coded, coded×, coded_list, coded_ℕ}
 use base.Stored.{coded_via}
 use Rattle.half_store.specs.Slots.{IsSlotVacancy, slot_at, distance_from_home, ProbeInvariant, slots_from, EachOnce, bucket_of}
@@ -8,6 +8,8 @@ use Rattle.half_store.specs.Words.{AreWordsFor, room_of, most_in, IsUnfilled, Is
 use Rattle.half_store.specs.declared.words.WordMemory.{WordMemory}
 use Rattle.std.specs.declared.vec.Vec.{Vec}
 use Rattle.std.specs.List.{swap_remove}
+use Rattle.std.specs.Option.{option_map}
+use Rattle.std.specs.Result.{result_ok}
 use Rattle.half_store.specs.Work.{work_after_missing, IsTableHitCost, Work, probe_reads, sum_below}
 use Rattle.half_store.specs.Reach.{reach, filling_reach}
 
@@ -20,13 +22,9 @@ pub record TableState : Type 0 where
 abbrev pub state_of_words : List ℕ → List ℕ → TableState
 state_of_words hashes words = record { hashes = hashes; buckets = length words; words = words }
 
--- the hash stored for each bucket of the table
-abbrev pub table_slots : TableState → List (Option ℕ)
-table_slots t = slots_from t.hashes t.words
-
 -- an insertion probe for the hash ends at this bucket
 abbrev pub IsTableVacancy : TableState → ℕ → ℕ → Type 0
-IsTableVacancy t hash bucket = IsSlotVacancy (table_slots t) hash bucket
+IsTableVacancy t hash bucket = IsSlotVacancy (slots_from t.hashes t.words) hash bucket
 
 -- the pair of this entry index stands in this bucket
 abbrev pub IsTablePlace : TableState → ℕ → ℕ → Type 0
@@ -89,19 +87,24 @@ pub record IsTableMemory {Z : Type 0} (hashes : Vec ℕ Z) (words : WordMemory) 
   pub no_hashes : IsUnfilledVec hashes
   pub no_words : IsUnfilled words
 
+-- what a search of a table cost that found the pair of this entry index, or none. The searches for all pairs, one each, read what insertions
+-- of their hashes read (`hits`)
+pub record IsTableSearchCost (t : TableState) (hash : ℕ) (index : Option ℕ) (old new : Work) : Type 0 where
+  pub missing : IfNone index (new ≡ work_after_missing t.hashes t.buckets hash old)
+  pub found : IfSome index (λ _. IsTableHitCost t.hashes t.buckets hash old new)
+  pub hit : IfSome index (λ at. new.looked ≡ old.looked + hit_reads_in t at)
+  pub hits : all_hit_reads_in t (length t.hashes) ≡ filling_reach t.buckets t.hashes
+  pub short : reach t.hashes t.buckets hash ≤ length t.hashes + 1
+
 -- the entry index of a pair of this hash that the test accepts, and its bucket; or, where it rejects each, the empty bucket where the probe
--- ended, if there are buckets. The searches for all pairs, one each, read what insertions of their hashes read (`hits`)
+-- ended, if there are buckets
 pub record TableSearch (returns : ℕ → Bool → Type 0) (t : TableState) (hash : ℕ) (result : Result (ℕ × ℕ) ℕ) (old new : Work) : Type 0 where
   pub found : IfOk result (λ pair. slice_get t.hashes pair.0 ≡ Some hash)
   pub at : IfOk result (λ pair. IsTablePlace t pair.0 pair.1)
   pub accepted : IfOk result (λ pair. returns pair.0 true)
   pub rejected : OnErr result ((index : ℕ) → slice_get t.hashes index ≡ Some hash → returns index false)
   pub vacancy : IfErr result (λ bucket. 0 < t.buckets → IsTableVacancy t hash bucket)
-  pub missing_cost : OnErr result (new ≡ work_after_missing t.hashes t.buckets hash old)
-  pub found_cost : IfOk result (λ pair. IsTableHitCost t.hashes t.buckets hash old new)
-  pub hit : IfOk result (λ pair. new.looked ≡ old.looked + hit_reads_in t pair.0)
-  pub hits : all_hit_reads_in t (length t.hashes) ≡ filling_reach t.buckets t.hashes
-  pub short : reach t.hashes t.buckets hash ≤ length t.hashes + 1
+  pub cost : IsTableSearchCost t hash (option_map (λ pair. pair.0) (result_ok result)) old new
   pub buckets : t.buckets ≡ buckets_of (capacity_of t.buckets)
 
 -- the pair at this entry index, which had the hash that is returned, is gone, and the last one has its index

@@ -11,6 +11,7 @@ mod columns;
 pub mod drain;
 pub mod find;
 pub mod memory;
+mod retain;
 
 use crate::{Columns, Table};
 use std::alloc::Global;

@@ -16,7 +16,6 @@ ghost use Rattle.half_store.specs.Table.{with_hash_in, IsTablePlace, IsTableVaca
 mod deletion;
 pub mod memory;
 pub mod probe;
-mod retain;
 mod shift;
 
 use crate::Tally;
@@ -30,15 +29,14 @@ use std::marker::Model;
 /// Buckets that lead from a hash to the entry indices of the pairs that have it.
 ///
 /// Entry indices count up in the order of insertion. `remove_at` gives the last pair the index that became free,
-/// `shift_remove_at` gives each pair behind the removed one the index before its own, and `retain` numbers the kept pairs anew. There
-/// are no buckets, or a power of two from 4 on, and the load factor is three quarters. A bucket takes four bytes where that is
+/// `shift_remove_at` gives each pair behind the removed one the index before its own. There are no buckets, or a power of two from 4 on, and the load factor is three quarters. A bucket takes four bytes where that is
 /// enough for as many pairs as fit, and else eight.
 #[derive(Drop)]
 pub struct Table {
     // 0 for an empty bucket, else the entry index and one more
-    buckets: WordArray,
+    pub(crate) buckets: WordArray,
     // by entry index
-    hashes: Vec<u64>,
+    pub(crate) hashes: Vec<u64>,
 }
 
 impl Model for Table {

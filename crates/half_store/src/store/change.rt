@@ -12,6 +12,7 @@ ghost use Rattle.half_store.specs.Store.{store_pushed, IsPlaced, IsVacancy, Same
 
 use super::Store;
 use super::find::{Found, Vacancy};
+use super::retain::retain_in_table;
 use crate::uncounted;
 
 impl<K, V> Store<K, V> {
@@ -104,7 +105,7 @@ impl<K, V> Store<K, V> {
         ensures form { SameFormAndCapacity self.old self.new }
     {
         match &mut self.table {
-            Some(table) => table.retain(&mut self.columns, f),
+            Some(table) => retain_in_table(&mut self.columns, table, f),
             None => self.columns.retain(&mut [], f),
         }
     }

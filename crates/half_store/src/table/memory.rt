@@ -142,7 +142,7 @@ impl Table {
 }
 
 /// Puts all pairs into empty buckets, in the order of their entry indices.
-pub(super) fn rehash<B: Words>(buckets: &mut B, hashes: &[u64])
+pub(crate) fn rehash<B: Words>(buckets: &mut B, hashes: &[u64])
     requires count { IsBucketCount (length (B.words buckets.old)) }
     requires empty { B.words buckets.old ≡ replicate (length (B.words buckets.old)) 0 }
     requires capacity { length hashes.now ≤ capacity_of (length (B.words buckets.old)) }

@@ -1,7 +1,7 @@
 -- What a search of the columns or of the index says of the store over them.
 use Rattle.half_store.proofs.Common.{◌≡◌, ◌≤◌, length, ◌+◌, refl, ◌∙◌, arith, ℕ, sym, ap, Bool, List, Some, Option, None, subst, length-keys_of}
-use Rattle.half_store.proofs.Common.{slice_get_within, slice_get, ColumnsState, reach, filling_reach, ReturnsAt, vector_of, table_of, TableState, TableSearch}
-use Rattle.half_store.proofs.Common.{Work}
+use Rattle.half_store.proofs.Common.{slice_get_within, slice_get, ColumnsState, ReturnsAt, vector_of, table_of, TableState, TableSearch}
+use Rattle.half_store.proofs.Common.{Work, capacity_of, buckets_of}
 use Rattle.std.proofs.Common.{Ok, Err, true≢false}
 use Rattle.std.specs.Map.{keys_of}
 use Rattle.half_store.specs.declared.store.find.Found.{Found}
@@ -9,7 +9,7 @@ use Rattle.half_store.specs.declared.store.find.Vacancy.{Vacancy}
 use Rattle.half_store.specs.declared.vecmap.search.Scan.{Scan}
 use Rattle.half_store.specs.Search.{IsFirstMatch, StoreSearch, ComparesInOrder, IsStoreSearchCost}
 use Rattle.half_store.specs.Store.{StoreState, TableFitsColumns}
-use Rattle.half_store.specs.Work.{IsTableHitCost, work_after_missing}
+use Rattle.half_store.specs.Table.{IsTableSearchCost}
 
 module _ {K V : Type 0} (columns : ColumnsState K V) {keys : List K} (same : keys ≡ keys_of columns.pairs) where
   -- a key of the columns is the one that was read
@@ -31,11 +31,8 @@ module _ {K V : Type 0} (columns : ColumnsState K V) {keys : List K} (same : key
       subst (λ (s : StoreState K V). IsStoreSearchCost s hash scan found old new) is
       (record {
         vector = λ form. subst (λ n. ComparesInOrder scan found n old new) (ap length same ∙ length-keys_of columns.pairs) work;
-        found = λ form. absurd (true≢false form);
-        hit = λ form. absurd (true≢false form);
-        hits = λ form. absurd (true≢false form);
-        missing = λ form. absurd (true≢false form);
-        short = λ form. absurd (true≢false form);
+        table = λ form. absurd (true≢false form);
+        buckets = λ form. absurd (true≢false form);
       })
 
   module _ {returns : K → Bool → Type 0} {hash : ℕ} {s : StoreState K V} where
@@ -84,29 +81,10 @@ module _ {K V : Type 0} (columns : ColumnsState K V) {keys : List K} (same : key
             λ some form. (refl, found.vacancy (omega (arith, some))),
           )
 
-      -- what a search of a table costs, where it finds a pair and where it finds none
-      pub table_accepts_cost : {index bucket : ℕ} {scan : Scan} → TableSearch (ReturnsAt returns keys) t hash (Ok (index, bucket)) old new
-          → IsStoreSearchCost s hash scan (Some index) old new
-      table_accepts_cost {index} {bucket} {scan} e =
-          subst (λ (s : StoreState K V). IsStoreSearchCost s hash scan (Some index) old new) is
-          (record {
-            vector = λ form. absurd (true≢false (sym form));
-            found = λ form. subst (λ b. IsTableHitCost t.hashes b hash old new) e.buckets e.found_cost;
-            hit = λ form. e.hit;
-            hits = λ form. e.hits ∙ ap (λ b. filling_reach b t.hashes) e.buckets;
-            missing = λ form. tt;
-            short = λ form. subst (λ b. reach t.hashes b hash ≤ length t.hashes + 1) e.buckets e.short;
-          })
-
-      pub table_refuses_cost : {bucket : ℕ} {scan : Scan} → TableSearch (ReturnsAt returns keys) t hash (Err bucket) old new
-          → IsStoreSearchCost s hash scan None old new
-      table_refuses_cost {bucket} {scan} e =
-          subst (λ (s : StoreState K V). IsStoreSearchCost s hash scan None old new) is
-          (record {
-            vector = λ form. absurd (true≢false (sym form));
-            found = λ form. tt;
-            hit = λ form. tt;
-            hits = λ form. e.hits ∙ ap (λ b. filling_reach b t.hashes) e.buckets;
-            missing = λ form. subst (λ b. new ≡ work_after_missing t.hashes b hash old) e.buckets e.missing_cost;
-            short = λ form. subst (λ b. reach t.hashes b hash ≤ length t.hashes + 1) e.buckets e.short;
-          })
+-- what a search of a table costs
+pub table_cost : {K V : Type 0} (columns : ColumnsState K V) {t : TableState} {s : StoreState K V} → table_of columns t ≡ s → {hash : ℕ} {scan : Scan}
+    {index : Option ℕ} {old new : Work} → IsTableSearchCost t hash index old new → t.buckets ≡ buckets_of (capacity_of t.buckets)
+    → IsStoreSearchCost s hash scan index old new
+table_cost columns is {hash} {scan} {index} {old} {new} cost buckets =
+    subst (λ (s : StoreState _ _). IsStoreSearchCost s hash scan index old new) is
+    (record { vector = λ form. absurd (true≢false (sym form)); table = λ form. cost; buckets = λ form. buckets })

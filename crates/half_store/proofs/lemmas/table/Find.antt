@@ -85,22 +85,24 @@ module _ {hashes words : List ℕ} (x : IsIndexed hashes words) (hash : ℕ) whe
         accepted = accepted;
         rejected = tt;
         vacancy = tt;
-        missing_cost = tt;
-        found_cost = record {
-          asked = asked;
-          compared_some = some;
-          compared_most = omega arith;
-          looked_some = omega arith;
-          looked_most = omega arith;
-          looked_once = λ apart.
-              let none : distance_from_home slots hash p ≡ 0 =
-              ap (λ b. probe_distance (length slots) b p) (at_home x (subst (HomesApart hashes) (sym size) apart) vacant p hash ends.found.found)
-              ∙ distance_self (length slots) p in_p in
-              omega arith;
+        cost = record {
+          missing = tt;
+          found = record {
+            asked = asked;
+            compared_some = some;
+            compared_most = omega arith;
+            looked_some = omega arith;
+            looked_most = omega arith;
+            looked_once = λ apart.
+                let none : distance_from_home slots hash p ≡ 0 =
+                ap (λ b. probe_distance (length slots) b p) (at_home x (subst (HomesApart hashes) (sym size) apart) vacant p hash ends.found.found)
+                ∙ distance_self (length slots) p in_p in
+                omega arith;
+          };
+          hit = looked_hit index p old.looked new.looked ends;
+          hits = hits_add_up x;
+          short = short;
         };
-        hit = looked_hit index p old.looked new.looked ends;
-        hits = hits_add_up x;
-        short = short;
         buckets = buckets_seen hashes words x refl;
       }
   finds returns (Err bucket) old new ends accepted vacancy refused asked looked some most all =
@@ -113,11 +115,13 @@ module _ {hashes words : List ℕ} (x : IsIndexed hashes words) (hash : ℕ) whe
         accepted = tt;
         rejected = each_index (λ index. returns index false) refused;
         vacancy = λ buckets. vacancy;
-        missing_cost = same_work new (work_after_missing hashes (length words) hash old) asked (omega arith) (omega arith);
-        found_cost = tt;
-        hit = tt;
-        hits = hits_add_up x;
-        short = short;
+        cost = record {
+          missing = same_work new (work_after_missing hashes (length words) hash old) asked (omega arith) (omega arith);
+          found = tt;
+          hit = tt;
+          hits = hits_add_up x;
+          short = short;
+        };
         buckets = buckets_seen hashes words x refl;
       }
 

@@ -1,6 +1,6 @@
 use Rattle.half_store.proofs.Common.{ap}
 use Rattle.half_store.proofs.lemmas.store.Searches.{vector_accepts, vector_refuses, vector_cost, held, hashed_within}
-use Rattle.half_store.proofs.lemmas.store.Searches.{table_accepts, table_refuses, table_accepts_cost, table_refuses_cost}
+use Rattle.half_store.proofs.lemmas.store.Searches.{table_accepts, table_refuses, table_cost}
 use Rattle.half_store.proofs.lemmas.store.States.{vector_view, table_view, table_over}
 use Rattle.half_store.proofs.store.Store.find.Goals as goal
 
@@ -53,9 +53,9 @@ find-requires g c =
 pub returns-in-Ok-clause-cost : goal.returns-in-Ok-clause-cost
 returns-in-Ok-clause-cost g c =
     let columns = c.self.inside.columns in
-    table_accepts_cost columns c.keys-2.ensures.keys (table_view columns c.deref.ensures c.in-Some.is c.self.view_is) c.in-Ok.ensures
+    table_cost columns (table_view columns c.deref.ensures c.in-Some.is c.self.view_is) c.in-Ok.ensures.cost c.in-Ok.ensures.buckets
 
 pub returns-in-Err-clause-cost : goal.returns-in-Err-clause-cost
 returns-in-Err-clause-cost g c =
     let columns = c.self.inside.columns in
-    table_refuses_cost columns c.keys-2.ensures.keys (table_view columns c.deref.ensures c.in-Some.is c.self.view_is) c.in-Err.ensures
+    table_cost columns (table_view columns c.deref.ensures c.in-Some.is c.self.view_is) c.in-Err.ensures.cost c.in-Err.ensures.buckets

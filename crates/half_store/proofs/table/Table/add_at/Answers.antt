@@ -1,6 +1,6 @@
 use Rattle.half_store.proofs.Common.{◌≡◌, length, ◌+◌, ◌∙◌, arith, ◌<◌, suc, sym, ap, subst, set, length-set, capacity_of, IsSlotVacancy, state_of_words}
 use Rattle.half_store.proofs.Common.{AreWordsFor, words_of}
-use Rattle.half_store.specs.Table.{table_slots, with_hash_in}
+use Rattle.half_store.specs.Table.{with_hash_in, IsTableVacancy}
 use Rattle.half_store.proofs.lemmas.table.Layout.{IsIndexed-add, IsTable-as, count_seen}
 use Rattle.half_store.proofs.table.Table.add_at.Goals as goal
 
@@ -13,7 +13,7 @@ invariant_of-self c =
     let x = c.self.invariant in
     let held = ap (λ v. length v.hashes) c.self.view_is in
     let count = ap capacity_of (count_seen _ _ c.self.view_is) in
-    let w = subst (λ s. IsSlotVacancy s c.args.hash bucket) (sym (ap table_slots c.self.view_is)) c.requires.vacancy in
+    let w = subst (λ t. IsTableVacancy t c.args.hash bucket) (sym c.self.view_is) c.requires.vacancy in
     let few : length hs < capacity_of (length words) = omega (arith, held, count, c.requires.capacity) in
     let index : c.len-word.result + 1 ≡ suc (length hs) = omega (arith, held, c.len-word.ensures.value) in
     let same = ap capacity_of (length-set words bucket (suc (length hs))) in
