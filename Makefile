@@ -7,9 +7,11 @@
 # make witness      plays N scripts at random (N=.., SEED=..) on both, and compares each line
 # make bench        proves and builds what it times, where something has changed, prints times and memory, and draws docs/speed.svg
 #                   (ROUNDS=3 takes fewer rounds than 9; WORDS="drain u64 1000" picks rows)
+# make instructions proves and builds half_bench, where something has changed, and compares the instructions of each call with
+#                   those that are stored (WORDS="insert String" picks rows)
 # make fmt          lays out the files of every crate
 
-targets := help run prove test edits scripts witness bench fmt
+targets := help run prove test edits scripts witness bench instructions fmt
 .PHONY: $(targets) answers
 
 no_rt = $(error There is no rt on the path; it is in the folder bin of Rattle's kit)
@@ -55,6 +57,9 @@ witness: out/covered/witness
 
 bench:
 	@tests/bench.py $(or $(ROUNDS),9) $(WORDS)
+
+instructions:
+	@tests/prove.sh half_bench run && tests/instructions.py $(WORDS)
 
 fmt:
 	@for crate in crates/*/; do (cd "$$crate" && rt fmt) || exit 1; done

@@ -1,12 +1,11 @@
 #!/usr/bin/env python3
-"""What `make bench` runs: proves and builds half_bench, halfmap and word_count, where something has changed, prints all
-figures, of which docs/SPEED.md has a part, and draws docs/speed.svg where it measured all of them.
+"""What `make bench` runs: proves and builds half_bench, where something has changed, prints all figures, of which docs/SPEED.md
+has a part, and draws docs/speed.svg where it measured all of them.
 
     tests/bench.py [ROUNDS] [WORD..]                  9 rounds where none are given
     tests/bench.py --against DIR [ROUNDS] [WORD..]    half_bench of this tree and of one built there, 3 rounds in each of six orders
 
-Words pick rows of times: operations, `u64`, `String` and sizes; `memory`, `reads`, `halfmap` and `word_count`
-those tables.
+Words pick rows of times: operations, `u64`, `String` and sizes; `memory` and `reads` those tables.
 """
 
 import collections
@@ -15,11 +14,9 @@ import math
 import os
 import pathlib
 import platform
-import random
 import re
 import shutil
 import statistics
-import string
 import subprocess
 import sys
 import tempfile
@@ -28,36 +25,30 @@ import time
 import picture
 
 TOP = pathlib.Path(__file__).resolve().parent.parent
-MAPS = ["limit_0", "limit_32", "std", "indexmap"]
+MAPS = ["halfbrown", "std", "indexmap"]
 # The types of keys, each with the most pairs: texts in maps of a million pairs would take most of the time.
 KEYS = {"u64": 1_000_000, "String": 100_000}
 SIZES = [4, 16, 33, 100, 1_000, 100_000, 1_000_000]
-OPERATIONS = (
-    "hit miss raw_hit build raw_build insert remove churn entry_churn entry_few entry_many iter values_mut clone retain drain"
-    " from_iter extend equal shrink_to_fit"
-).split()
-OTHERS = ["memory", "reads", "halfmap", "word_count"]
-# Pairs in all maps whose memory is measured, lines that halfmap reads, and keys that it holds at look-ups.
-PAIRS = LINES = 1_000_000
-HELD = 100_000
+OPERATIONS = "hit miss raw_hit build remove churn entry_few entry_many iter clone retain drain".split()
+OTHERS = ["memory", "reads"]
+# Pairs in all maps whose memory is measured.
+PAIRS = 1_000_000
 # Pairs and buckets of a full table, whose probes are counted.
 FULL, BUCKETS = 3 << 16, picture.BUCKETS
-# Words that word_count counts, and how many of them differ.
-WORDS, DIFFERING = 2_000_000, 50_000
 
 Place = collections.namedtuple("Place", "operation keys pairs")
 # In so many orders `--against` links the functions of each program, since the order alone changes a time by .8 to 1.25.
 ORDERS = 6
-# What the picture shows of this map at limit 32, and of std's: times by place, and bytes by keys and pairs.
+# What the picture shows of this map, and of std's: times by place, and bytes by keys and pairs.
 DRAWN = {}
 
 
-def build(name):
-    """Proves and builds a program, and returns its path."""
-    print(f"{name}: proving and building, where something has changed", file=sys.stderr)
-    if subprocess.run([TOP / "tests/prove.sh", name, "run"]).returncode:
+def build():
+    """Proves and builds half_bench, and returns its path."""
+    print("half_bench: proving and building, where something has changed", file=sys.stderr)
+    if subprocess.run([TOP / "tests/prove.sh", "half_bench", "run"]).returncode:
         sys.exit(1)
-    return TOP / "crates" / name / "out" / name
+    return TOP / "crates/half_bench/out/half_bench"
 
 
 def print_table(heads, rows, texts=1):
@@ -69,19 +60,20 @@ def print_table(heads, rows, texts=1):
 
 
 def places(words):
-    """The rows that the words pick. A map goes back to a vector of at most 32 pairs, so others need not shrink."""
+    """The rows that the words pick."""
 
     def chosen(among):
         return [it for it in among if str(it) in words] or among
 
     for place in itertools.starmap(Place, itertools.product(chosen(OPERATIONS), chosen(KEYS), chosen(SIZES))):
-        if place.pairs <= (32 if place.operation == "shrink_to_fit" else KEYS[place.keys]):
+        if place.pairs <= KEYS[place.keys]:
             yield place
 
 
 def times(program, place, rounds):
     """The nanoseconds of one operation in each round, for each map. All maps have to give the same answers."""
-    ran = subprocess.run([program, "times", *map(str, place), str(rounds)], capture_output=True, text=True)
+    command = [program, "times", place.keys, place.operation, str(place.pairs), str(rounds)]
+    ran = subprocess.run(command, capture_output=True, text=True)
     found, answers = {it: [] for it in MAPS}, set()
     for line in ran.stdout.splitlines():
         name, picoseconds, answer = line.split()
@@ -101,21 +93,20 @@ def spread(found):
 
 def print_times(rounds, words):
     """Prints a table for each operation."""
-    program = build("half_bench")
+    program = build()
 
     def row(place):
         print(*place, file=sys.stderr)
         found = times(program, place, rounds)
-        pairs = [zip(found[ours], found[name]) for ours in MAPS[:2] for name in MAPS[2:]]
+        pairs = [zip(found[MAPS[0]], found[name]) for name in MAPS[1:]]
         ratios = [statistics.median(ours / max(theirs, 0.01) for ours, theirs in it) for it in pairs]
         numbers = [f"{statistics.median(found[name]):,.1f}" for name in MAPS]
-        DRAWN[place] = [round(statistics.median(found[name]), 1) for name in MAPS[1:3]]
+        DRAWN[place] = [round(statistics.median(found[name]), 1) for name in MAPS[:2]]
         widest = max(map(spread, found.values()))
         return [place.keys, f"{place.pairs:,}", *numbers, f"{widest:.0%}", *(f"{it:.2f}" for it in ratios)]
 
     print(f"Times of one operation in nanoseconds, and ratios, by the medians of {rounds} rounds:")
-    heads = ["keys", "pairs", "limit 0", "limit 32", "std", "indexmap", "spread"]
-    heads += [f"{ours} to {name}" for ours in heads[2:4] for name in MAPS[2:]]
+    heads = ["keys", "pairs", *MAPS, "spread", *(f"to {name}" for name in MAPS[1:])]
     for operation, rows in itertools.groupby(places(words), lambda it: it.operation):
         print(f"\n`{operation}`\n")
         print_table(heads, map(row, rows))
@@ -139,7 +130,7 @@ def print_against(other, rounds, words, folder):
     other = pathlib.Path(other).resolve() / "crates/half_bench/out/half_bench"
     if not other.exists():
         sys.exit(f"{other}: not built")
-    built = build("half_bench"), other
+    built = build(), other
     orders = [[shuffled(program, order, folder) for program in built] for order in range(1, ORDERS + 1)]
     # All run on one processor, so that none has a better one, and they take turns, also in which goes first.
     os.sched_setaffinity(0, {max(os.sched_getaffinity(0))})
@@ -174,13 +165,13 @@ def peak_bytes(program, *words):
 
 def memory_rows(program):
     """Bytes a pair of as many maps as hold a million pairs. One map alone would be lost in the pages of the program."""
-    empty = peak_bytes(program, "std", "u64", 0, 0)
+    empty = peak_bytes(program, "u64", "std", 0, 0)
     for keys, size in itertools.product(KEYS, SIZES):
         print(f"memory {keys} {size}", file=sys.stderr)
         copies = PAIRS // size
-        peaks = [peak_bytes(program, name, keys, size, copies) for name in MAPS]
+        peaks = [peak_bytes(program, keys, name, size, copies) for name in MAPS]
         pair = [round((peak - empty) / (size * copies)) for peak in peaks]
-        DRAWN[keys, size] = pair[1:3]
+        DRAWN[keys, size] = pair[:2]
         yield [keys, f"{size:,}", f"{copies:,}", *pair]
 
 
@@ -213,72 +204,18 @@ def long_rows(loads):
         yield [f"{held / BUCKETS:.3f}", many, *map(picture.one_in, parts)]
 
 
-def processor_seconds(command, path):
-    """The processor time that a program takes to read the file as its input."""
-    with open(path) as given:
-        environment = {**os.environ, "LC_ALL": "C"}
-        running = subprocess.Popen(command, stdin=given, stdout=subprocess.DEVNULL, env=environment)
-        _, status, used = os.wait4(running.pid, 0)
-    running.returncode = os.waitstatus_to_exitcode(status)
-    if running.returncode:
-        sys.exit(f"{command}: status {running.returncode}")
-    return used.ru_utime + used.ru_stime
-
-
-def halfmap_rows(program, rounds, path):
-    chance = random.Random(1)
-    keys = chance.sample(range(10 * LINES), LINES)
-    insertions = [f"i {key} {number}" for number, key in enumerate(keys)]
-    held = keys[:HELD]
-    look_ups = insertions[:HELD] + [f"g {chance.choice(held)}" for _ in range(LINES)]
-    forms = ["i {0} {1}", "g {0}", "r {0}", "f"]
-    mixed = [chance.choice(forms).format(chance.randrange(HELD), chance.randrange(HELD)) for _ in range(LINES)]
-    for name, lines in [
-        ("a million insertions of new keys", insertions),
-        ("a million mixed lines", mixed),
-        ("a million look-ups, after 100,000 insertions", look_ups),
-    ]:
-        print(f"halfmap: {name}", file=sys.stderr)
-        path.write_text("".join(f"{line}\n" for line in lines))
-        commands = [program], ["sort", "-u"]
-        ratios = [processor_seconds(commands[0], path) / processor_seconds(commands[1], path) for _ in range(rounds)]
-        yield [name, f"{statistics.median(ratios):.2f}"]
-
-
-def words_rows(word_count, half_bench, rounds, path):
-    """Words come as unevenly as those of a language do: the second of them half as often as the first, and so on."""
-    print("word_count", file=sys.stderr)
-    chance = random.Random(1)
-    words = ["".join(chance.choices(string.ascii_lowercase, k=chance.randint(2, 10))) for _ in range(DIFFERING)]
-    weights = list(itertools.accumulate(1 / rank for rank in range(1, DIFFERING + 1)))
-    path.write_text(" ".join(chance.choices(words, cum_weights=weights, k=WORDS)) + "\n")
-    programs = {"word_count": [word_count]}
-    programs |= {f"counting alone, {it}": [half_bench, "words", it] for it in MAPS[1:]}
-    # They take turns.
-    seconds = [[processor_seconds(it, path) for it in programs.values()] for _ in range(rounds)]
-    for name, found in zip(programs, zip(*seconds)):
-        yield [name, f"{path.stat().st_size / 1e6 / statistics.median(found):.0f}"]
-
-
-def print_others(rounds, words, path):
+def print_others(words):
     if "memory" in words:
         print("\nMemory, in bytes a pair at the peak:\n")
-        print_table(["keys", "pairs a map", "maps", *MAPS], memory_rows(build("half_bench")))
+        print_table(["keys", "pairs a map", "maps", *MAPS], memory_rows(build()))
     if "reads" in words:
         print(f"\nBuckets that a probe reads on average, in a table of {BUCKETS:,}:\n")
         heads = [f"{what}, {how}" for what in ("a miss", "an insertion", "a hit") for how in ("at most", *KEYS)]
-        loads = reads_lines(build("half_bench"))
+        loads = reads_lines(build())
         print_table(["load", *heads], reads_rows(loads))
         print("\nOne search in so many reads more buckets:\n")
         heads = ["misses, by proof", *(f"{what}, {keys}" for what in ("misses", "hits") for keys in KEYS)]
         print_table(["load", "more than", *heads], long_rows(loads))
-    if "halfmap" in words:
-        print(f"\nhalfmap, by the median of {rounds} rounds:\n")
-        print_table(["lines", "halfmap to sort -u"], halfmap_rows(build("halfmap"), rounds, path))
-    if "word_count" in words:
-        print(f"\nMegabytes of words a second, by the median of {rounds} rounds:\n")
-        programs = build("word_count"), build("half_bench")
-        print_table(["program", "megabytes"], words_rows(*programs, rounds, path))
 
 
 def draw():
@@ -314,7 +251,7 @@ def main():
             return print_against(other, rounds, words, pathlib.Path(folder))
         if rows or not words:
             print_times(rounds, rows)
-        print_others(rounds, words or OTHERS, pathlib.Path(folder) / "lines")
+        print_others(words or OTHERS)
     if not words:
         draw()
     print_machine(time.monotonic() - began)

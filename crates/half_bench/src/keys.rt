@@ -2,8 +2,9 @@
 ghost use Rattle.std.specs.Prelude.{◌≡◌, true};
 ghost use Rattle.std.proofs.Common.{rules};
 
+use halfbrown::DefaultHashBuilder;
 use std::alloc::Global;
-use std::hash::Hash;
+use std::hash::{BuildHasher, Hash};
 use std::io;
 use std::ops::Range;
 
@@ -18,10 +19,6 @@ impl Lawful for u64 {
 }
 
 impl Lawful for String {
-    ghost clones_equal = { Prim.search rules };
-}
-
-impl Lawful for &str {
     ghost clones_equal = { Prim.search rules };
 }
 
@@ -51,6 +48,21 @@ impl OfNumber for String {
 impl<K: Key> OfNumber for (K, u64) {
     fn of_number(alloc: Global, number: u64) -> io::Result<(K, u64)> {
         Ok((K::of_number(alloc, number)?, number))
+    }
+}
+
+/// A key with its hash by a default builder.
+#[derive(Drop)]
+pub(crate) struct Hashed<K> {
+    pub key: K,
+    pub hash: u64,
+}
+
+impl<K: Key> OfNumber for Hashed<K> {
+    fn of_number(alloc: Global, number: u64) -> io::Result<Hashed<K>> {
+        let key = K::of_number(alloc, number)?;
+        let hash = DefaultHashBuilder::new().hash_one(&key);
+        Ok(Hashed { key, hash })
     }
 }
 

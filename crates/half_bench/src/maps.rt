@@ -1,9 +1,9 @@
 //! The maps that are compared, behind one trait. All hash by the same builder, which is the default of each.
 use crate::keys::{Key, Lawful};
-use halfbrown::{DefaultHashBuilder, SizedHashMap};
-use indexmap::{IndexMap, map};
+use halfbrown::DefaultHashBuilder;
+use indexmap::IndexMap;
 use std::alloc::Global;
-use std::collections::{HashMap, hash_map};
+use std::collections::HashMap;
 use std::io;
 
 // Adds up a number of each pair.
@@ -17,8 +17,8 @@ macro_rules! sum {
     }};
 }
 
-/// Our map, at limit N.
-pub(crate) type AtLimit<K, const N: usize> = SizedHashMap<K, u64, DefaultHashBuilder, N>;
+/// Our map.
+pub(crate) type Ours<K> = halfbrown::HashMap<K, u64>;
 
 /// The hash map of std.
 pub(crate) type OfStd<K> = HashMap<K, u64, DefaultHashBuilder>;
@@ -27,11 +27,8 @@ pub(crate) type OfStd<K> = HashMap<K, u64, DefaultHashBuilder>;
 pub(crate) type OfIndex<K> = IndexMap<K, u64, DefaultHashBuilder>;
 
 /// A map from keys to numbers.
-pub(crate) trait Map<K: Lawful>: PartialEq + Drop {
+pub(crate) trait Map<K: Lawful>: Drop {
     fn empty(alloc: Global) -> Self;
-
-    /// A map of these pairs, by `from_iter`.
-    fn of_pairs(alloc: Global, pairs: Vec<(K, u64)>) -> io::Result<Self>;
 
     fn len(&self) -> usize;
 
@@ -50,9 +47,6 @@ pub(crate) trait Map<K: Lawful>: PartialEq + Drop {
     /// Takes out the pair of this key.
     fn take(&mut self, key: &K) -> Option<(K, u64)>;
 
-    /// Takes out the pair of this key through its entry, and returns its value.
-    fn take_entry(&mut self, key: K) -> io::Result<Option<u64>>;
-
     /// Adds one to the value of this key, which is zero where it is not held, by `entry`.
     fn count(&mut self, key: K) -> io::Result<()>;
 
@@ -67,44 +61,27 @@ pub(crate) trait Map<K: Lawful>: PartialEq + Drop {
     /// The sum of all values, by `iter`.
     fn sum(&self) -> u64;
 
-    /// Adds one to each value, by `values_mut`, and returns how many there are.
-    fn raise(&mut self) -> u64;
-
     fn copy(&self) -> io::Result<Self>;
 
     /// Keeps the pairs with even values, by `retain`, and returns how many there are.
-    fn keep_even(&mut self) -> u64;
+    fn keep_even(&mut self) -> io::Result<u64>;
 
     /// The sum of all values, by `drain`.
-    fn drained(&mut self) -> u64;
-
-    /// Inserts these pairs, by `extend`.
-    fn add_all(&mut self, pairs: Vec<(K, u64)>) -> io::Result<()>;
-
-    /// Gives back memory that the pairs do not need, by `shrink_to_fit`, and returns how many pairs there are.
-    fn shrink(&mut self) -> u64;
+    fn drained(&mut self) -> io::Result<u64>;
 }
 
-impl<K: Lawful, const N: usize> Map<K> for AtLimit<K, N> {
+impl<K: Lawful> Map<K> for Ours<K> {
     fn empty(alloc: Global) -> Self {
-        SizedHashMap::new(alloc)
-    }
-
-    fn of_pairs(alloc: Global, pairs: Vec<(K, u64)>) -> io::Result<Self> {
-        Ok(SizedHashMap::from_iter(alloc, pairs)?)
-    }
-
-    fn add_all(&mut self, pairs: Vec<(K, u64)>) -> io::Result<()> {
-        Ok(self.extend(pairs)?)
+        halfbrown::HashMap::new(alloc)
     }
 
     fn len(&self) -> usize {
-        SizedHashMap::len(self)
+        halfbrown::HashMap::len(self)
     }
 
     #[inline(always)]
     fn insert(&mut self, key: K, value: u64) -> io::Result<Option<u64>> {
-        Ok(SizedHashMap::insert(self, key, value)?)
+        Ok(halfbrown::HashMap::insert(self, key, value)?)
     }
 
     fn value_of(&self, key: &K) -> Option<u64> {
@@ -113,17 +90,6 @@ impl<K: Lawful, const N: usize> Map<K> for AtLimit<K, N> {
 
     fn take(&mut self, key: &K) -> Option<(K, u64)> {
         self.remove_entry(key)
-    }
-
-    #[inline(always)]
-    fn take_entry(&mut self, key: K) -> io::Result<Option<u64>> {
-        match self.entry(key)? {
-            halfbrown::Entry::Occupied(entry) => Ok(Some(entry.remove())),
-            halfbrown::Entry::Vacant(entry) => {
-                let _ = entry.into_key();
-                Ok(None)
-            }
-        }
     }
 
     fn count(&mut self, key: K) -> io::Result<()> {
@@ -136,43 +102,23 @@ impl<K: Lawful, const N: usize> Map<K> for AtLimit<K, N> {
         sum!(self.iter(), value => *value)
     }
 
-    fn raise(&mut self) -> u64 {
-        for value in self.values_mut() {
-            *value = value.wrapping_add(1);
-        }
-        self.len() as u64
-    }
-
     fn copy(&self) -> io::Result<Self> {
-        Ok(SizedHashMap::clone(self)?)
+        Ok(halfbrown::HashMap::clone(self)?)
     }
 
-    fn keep_even(&mut self) -> u64 {
+    fn keep_even(&mut self) -> io::Result<u64> {
         self.retain(|_, value| *value % 2 == 0);
-        self.len() as u64
+        Ok(self.len() as u64)
     }
 
-    fn drained(&mut self) -> u64 {
-        sum!(self.drain(), value => value)
-    }
-
-    fn shrink(&mut self) -> u64 {
-        self.shrink_to_fit();
-        self.len() as u64
+    fn drained(&mut self) -> io::Result<u64> {
+        Ok(sum!(self.drain(), value => value))
     }
 }
 
 impl<K: Lawful> Map<K> for OfStd<K> {
     fn empty(alloc: Global) -> Self {
         HashMap::new(alloc)
-    }
-
-    fn of_pairs(alloc: Global, pairs: Vec<(K, u64)>) -> io::Result<Self> {
-        Ok(HashMap::from_iter(alloc, pairs)?)
-    }
-
-    fn add_all(&mut self, pairs: Vec<(K, u64)>) -> io::Result<()> {
-        Ok(self.extend(pairs)?)
     }
 
     fn len(&self) -> usize {
@@ -192,17 +138,6 @@ impl<K: Lawful> Map<K> for OfStd<K> {
         self.remove_entry(key)
     }
 
-    #[inline(always)]
-    fn take_entry(&mut self, key: K) -> io::Result<Option<u64>> {
-        match self.entry(key)? {
-            hash_map::Entry::Occupied(entry) => Ok(Some(entry.remove())),
-            hash_map::Entry::Vacant(entry) => {
-                let _ = entry.into_key();
-                Ok(None)
-            }
-        }
-    }
-
     fn count(&mut self, key: K) -> io::Result<()> {
         let count = self.entry(key)?.or_insert(0);
         *count = count.wrapping_add(1);
@@ -213,43 +148,23 @@ impl<K: Lawful> Map<K> for OfStd<K> {
         sum!(self.iter(), value => *value)
     }
 
-    fn raise(&mut self) -> u64 {
-        for value in self.values_mut() {
-            *value = value.wrapping_add(1);
-        }
-        self.len() as u64
-    }
-
     fn copy(&self) -> io::Result<Self> {
         Ok(self.clone()?)
     }
 
-    fn keep_even(&mut self) -> u64 {
+    fn keep_even(&mut self) -> io::Result<u64> {
         self.retain(|_, value| *value % 2 == 0);
-        self.len() as u64
+        Ok(self.len() as u64)
     }
 
-    fn drained(&mut self) -> u64 {
-        sum!(self.drain(), value => value)
-    }
-
-    fn shrink(&mut self) -> u64 {
-        self.shrink_to_fit();
-        self.len() as u64
+    fn drained(&mut self) -> io::Result<u64> {
+        Ok(sum!(self.drain(), value => value))
     }
 }
 
 impl<K: Lawful> Map<K> for OfIndex<K> {
     fn empty(alloc: Global) -> Self {
         IndexMap::new(alloc)
-    }
-
-    fn of_pairs(alloc: Global, pairs: Vec<(K, u64)>) -> io::Result<Self> {
-        Ok(IndexMap::from_iter(alloc, pairs)?)
-    }
-
-    fn add_all(&mut self, pairs: Vec<(K, u64)>) -> io::Result<()> {
-        Ok(self.extend(pairs)?)
     }
 
     fn len(&self) -> usize {
@@ -269,17 +184,6 @@ impl<K: Lawful> Map<K> for OfIndex<K> {
         self.swap_remove_entry(key)
     }
 
-    #[inline(always)]
-    fn take_entry(&mut self, key: K) -> io::Result<Option<u64>> {
-        match self.entry(key)? {
-            map::Entry::Occupied(entry) => Ok(Some(entry.swap_remove())),
-            map::Entry::Vacant(entry) => {
-                let _ = entry.into_key();
-                Ok(None)
-            }
-        }
-    }
-
     fn count(&mut self, key: K) -> io::Result<()> {
         let count = self.entry(key)?.or_insert(0);
         *count = count.wrapping_add(1);
@@ -290,29 +194,17 @@ impl<K: Lawful> Map<K> for OfIndex<K> {
         sum!(self.iter(), value => *value)
     }
 
-    fn raise(&mut self) -> u64 {
-        for value in self.values_mut() {
-            *value = value.wrapping_add(1);
-        }
-        self.len() as u64
-    }
-
     fn copy(&self) -> io::Result<Self> {
         Ok(self.clone()?)
     }
 
-    fn keep_even(&mut self) -> u64 {
+    fn keep_even(&mut self) -> io::Result<u64> {
         self.retain(|_, value| *value % 2 == 0);
-        self.len() as u64
+        Ok(self.len() as u64)
     }
 
-    fn drained(&mut self) -> u64 {
-        sum!(self.drain(..), value => value)
-    }
-
-    fn shrink(&mut self) -> u64 {
-        self.shrink_to_fit();
-        self.len() as u64
+    fn drained(&mut self) -> io::Result<u64> {
+        Ok(sum!(self.drain(..), value => value))
     }
 }
 

@@ -1,8 +1,9 @@
-//! Rounds: the four maps in turn, with the same work, by the processor time of the thread.
+//! Rounds: the three maps in turn, with the same work, by the processor time of the thread.
 use crate::keys::Key;
-use crate::maps::{AtLimit, Map, OfIndex, OfStd};
+use crate::maps::{Map, OfIndex, OfStd, Ours};
 use crate::operations::given::{Given, Made};
-use crate::operations::{measure, measure_ours};
+use crate::operations::{call_ours, measure, measure_ours};
+use crate::uses;
 use std::alloc::Global;
 use std::io;
 use std::marker::PhantomData;
@@ -22,11 +23,10 @@ pub(crate) fn print<K: Key>(
     rounds: u64,
 ) -> io::Result<()> {
     for round in 0..rounds {
-        for turn in 0..4 {
-            match round.wrapping_add(turn) % 4 {
-                0 => print_ours::<K, 0>(rt, "limit_0", operation, size)?,
-                1 => print_ours::<K, 32>(rt, "limit_32", operation, size)?,
-                2 => print_other::<K, OfStd<K>>(rt, "std", operation, size)?,
+        for turn in 0..3 {
+            match round.wrapping_add(turn) % 3 {
+                0 => print_ours::<K>(rt, operation, size)?,
+                1 => print_other::<K, OfStd<K>>(rt, "std", operation, size)?,
                 _ => print_other::<K, OfIndex<K>>(rt, "indexmap", operation, size)?,
             }
         }
@@ -34,17 +34,16 @@ pub(crate) fn print<K: Key>(
     Ok(())
 }
 
-fn print_ours<K: Key, const N: usize>(
+fn print_ours<K: Key>(
     rt: &(impl Print + CpuClock + AllocGlobal),
-    map: &str,
     operation: &str,
     size: u64,
 ) -> io::Result<()> {
-    let mut timer = Timer::<'_, _, K, AtLimit<K, N>>::new(rt, rt.alloc(), size);
+    let mut timer = Timer::<'_, _, K, Ours<K>>::new(rt, rt.alloc(), size);
     for _ in 0..runs_of(size) {
         measure_ours(&mut timer, operation)?;
     }
-    println!(rt; "{map} {} {}", timer.picoseconds(), timer.answers)
+    println!(rt; "halfbrown {} {}", timer.picoseconds(), timer.answers)
 }
 
 fn print_other<K: Key, M: Map<K>>(
@@ -60,6 +59,34 @@ fn print_other<K: Key, M: Map<K>>(
     println!(rt; "{map} {} {}", timer.picoseconds(), timer.answers)
 }
 
+/// Does a call of our map once for each key or pair, and prints how many of these there are.
+pub(crate) fn count<K: Key>(
+    rt: &(impl Print + CpuClock + AllocGlobal),
+    group: &str,
+    call: &str,
+    size: u64,
+) -> io::Result<()> {
+    if group == "use" {
+        return count_use::<K>(rt, call, size);
+    }
+    let mut timer = Timer::<'_, _, K, Ours<K>>::new(rt, rt.alloc(), size);
+    timer.passes = 1;
+    call_ours(&mut timer, group, call)?;
+    println!(rt; "{} {}", timer.operations, timer.answers)
+}
+
+// Reads the clock as a timer does, so that what lies between can be told apart.
+fn count_use<K: Key>(
+    rt: &(impl Print + CpuClock + AllocGlobal),
+    name: &str,
+    size: u64,
+) -> io::Result<()> {
+    let _start = rt.thread_cpu_time()?;
+    let answer = uses::work::<K>(rt.alloc(), name, size)?;
+    let _end = rt.thread_cpu_time()?;
+    println!(rt; "{size} {answer}")
+}
+
 // How many runs are timed together.
 fn runs_of(size: u64) -> u64 {
     let runs = LEAST_IN_ALL.checked_div(size.max(LEAST_KEYS));
@@ -72,6 +99,8 @@ pub(crate) struct Timer<'a, C, K, M> {
     rt: &'a C,
     pub alloc: Global,
     pub size: u64,
+    // How often a run does work that leaves its maps and keys as they were.
+    passes: u64,
     nanoseconds: u64,
     operations: u64,
     // A number that depends on all answers.
@@ -85,6 +114,7 @@ impl<'a, C: CpuClock, K: Key, M: Map<K>> Timer<'a, C, K, M> {
             rt,
             alloc,
             size,
+            passes: if size < LEAST_IN_ALL { 10 } else { 2 },
             nanoseconds: 0,
             operations: 0,
             answers: 0,
@@ -92,19 +122,15 @@ impl<'a, C: CpuClock, K: Key, M: Map<K>> Timer<'a, C, K, M> {
         }
     }
 
-    /// How often a run looks up its keys.
-    pub fn look_up_passes(&self) -> u64 {
-        if self.size < LEAST_IN_ALL { 10 } else { 2 }
-    }
-
-    /// Times work in this many passes.
-    pub fn time<T, W>(&mut self, passes: u64, given: Made<K, M, T>, work: W) -> io::Result<()>
+    /// Times work, which can be done again or only once.
+    pub fn time<T, W>(&mut self, again: bool, given: Made<K, M, T>, work: W) -> io::Result<()>
     where
         T: Drop,
         W: Fn(&mut Given<K, M, T>) -> io::Result<u64>,
         requires work { W.IsAlwaysCallable work }
     {
         let mut given = given?;
+        let passes = if again { self.passes } else { 1 };
         let start = self.rt.thread_cpu_time()?;
         for _ in 0..passes {
             given.answer = work(&mut given)?;

@@ -7,16 +7,13 @@ use std::io;
 use std::marker::PhantomData;
 use std::ops::Range;
 
-// A map that has held this many pairs is a table, at either limit.
-const HELD_BEFORE: u64 = 33;
-
 /// Maps with keys of type K, and for each a list of keys or pairs.
 #[derive(Drop)]
 pub(crate) struct Given<K, M, T> {
     pub alloc: Global,
     pub maps: Vec<M>,
     pub lists: Vec<Vec<T>>,
-    /// Maps that the others are compared with, or that the work makes.
+    /// Maps that the work makes.
     pub others: Vec<M>,
     /// How many operations the work does.
     pub operations: u64,
@@ -129,11 +126,6 @@ fn append_keys<K: Key>(alloc: Global, lists: &mut [Vec<K>], size: u64) -> io::Re
     Ok(())
 }
 
-/// Maps with half of their pairs, and for each a list of the others.
-pub(crate) fn halves<K: Key, M: Map<K>>(alloc: Global, size: u64) -> Made<K, M, (K, u64)> {
-    of_many(alloc, size, size / 2, size / 2..size)
-}
-
 /// Maps with all their pairs.
 pub(crate) fn maps<K: Key, M: Map<K>>(alloc: Global, size: u64) -> Made<K, M, K> {
     of_many(alloc, size, size, 0..0)
@@ -144,21 +136,7 @@ pub(crate) fn filled<K: Key, M: Map<K>>(alloc: Global, size: u64) -> Made<K, M, 
     of_many(alloc, size, size, 0..size)
 }
 
-/// Maps, and others that are equal.
-pub(crate) fn twins<K: Key, M: Map<K>>(alloc: Global, size: u64) -> Made<K, M, K> {
-    let mut given: Given<K, M, K> = maps(alloc, size)?;
-    given.others = many_filled(alloc, given.maps.len() as u64, size)?;
-    Ok(given)
-}
-
-/// Maps that have held more pairs. Each is an operation.
-pub(crate) fn emptied<K: Key, M: Map<K>>(alloc: Global, size: u64) -> Made<K, M, K> {
-    let mut given: Given<K, M, K> = of_many(alloc, size, HELD_BEFORE, 0..0)?;
-    for map in given.maps.as_mut_slice() {
-        for number in size..HELD_BEFORE {
-            map.take(&K::of_number(alloc, number)?);
-        }
-    }
-    given.operations = given.maps.len() as u64;
-    Ok(given)
+/// Maps, and for each a list of its keys, and then of as many others.
+pub(crate) fn beyond<K: Key, M: Map<K>>(alloc: Global, size: u64) -> Made<K, M, K> {
+    of_many(alloc, size, size, 0..size.saturating_mul(2))
 }

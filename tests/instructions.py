@@ -1,0 +1,87 @@
+#!/usr/bin/env python3
+"""Counts the instructions of each call that does work, by callgrind, and compares them with those in tests/instructions.txt.
+
+    tests/instructions.py [WORD..]    all rows, or those that have one of these words: half_bench has to be proved
+    tests/instructions.py --write     stores what it counts
+
+They are the same in each run, whatever else the machine does. A row fails where an operation takes 1 % more or less than is
+stored, or grows with its map: where it takes half as much again among 30,000 as among 1,000, and its line does not end in
+`grows`. Only the program's own instructions count, since the C library picks its routines by the processor.
+"""
+
+import concurrent.futures
+import os
+import pathlib
+import shutil
+import subprocess
+import sys
+import tempfile
+
+TOP = pathlib.Path(__file__).resolve().parent.parent
+PROGRAM = TOP / "crates/half_bench/out/half_bench"
+TABLE = TOP / "tests/instructions.txt"
+SIZES = 10, 1_000, 30_000
+APART, GROWTH = 0.01, 1.5
+
+
+def own(profile):
+    """The instructions of the program's own functions. The line behind `calls=` has those of what is called."""
+    total, is_own, is_called = 0, False, False
+    for line in profile.splitlines():
+        if line.startswith("ob="):
+            is_own = line == f"ob={PROGRAM}"
+        elif line[:1] in "+-*0123456789" and line:
+            total += int(line.split()[1]) if is_own and not is_called else 0
+        is_called = line.startswith("calls=")
+    return total
+
+
+def count(row, size):
+    """How many instructions an operation takes: those between the two looks at the clock."""
+    *call, keys = row.split()
+    with tempfile.TemporaryDirectory() as folder:
+        options = [f"--callgrind-out-file={folder}/out", "--dump-before=clock_gettime*", "--compress-strings=no"]
+        command = ["valgrind", "-q", "--tool=callgrind", *options, PROGRAM, "count", keys, *call, str(size)]
+        ran = subprocess.run(command, capture_output=True, text=True)
+        if ran.returncode:
+            raise SystemExit(f"{row} {size}: {ran.stderr}")
+        return own(pathlib.Path(folder, "out.2").read_text()) / int(ran.stdout.split()[0])
+
+
+def lines(words):
+    """Each line of the table that the words pick: what is counted, the numbers, and whether it may grow."""
+    for line in TABLE.read_text().splitlines():
+        *row, small, middle, large = line.removesuffix(" grows").split()
+        if not words or set(words) & set(row):
+            yield " ".join(row), [float(it) for it in (small, middle, large)], line.endswith(" grows")
+
+
+def counted(rows):
+    """The rows, each with what is counted now, as it comes. As many programs run at once as there are processors."""
+    with concurrent.futures.ThreadPoolExecutor(os.cpu_count()) as pool:
+        new = [[pool.submit(count, row, size) for size in SIZES] for row, *_ in rows]
+        for row, numbers in zip(rows, new):
+            yield *row, [it.result() for it in numbers]
+
+
+def main():
+    words = [it for it in sys.argv[1:] if it != "--write"]
+    if not PROGRAM.exists():
+        sys.exit(f"{PROGRAM} is not built: make instructions proves and builds it\n0 passed, 1 failed")
+    if not shutil.which("valgrind"):
+        return print("There is no valgrind, so no instructions are counted.\n0 passed, 0 failed")
+    rows, failed, written = list(lines(words)), 0, ""
+    for row, old, grows, new in counted(rows):
+        ratios = [after / before for before, after in zip(old, new)]
+        found = any(abs(it - 1) > APART for it in ratios) or new[2] > GROWTH * new[1] and not grows
+        failed += found
+        three = (f"{before:10.2f} {after:10.2f} {ratio:.3f}" for before, after, ratio in zip(old, new, ratios))
+        print(f"{row:50}", *three, "FAILED" * found, flush=True)
+        written += f"{row:50}" + "".join(f"{it:12.2f}" for it in new) + " grows" * grows + "\n"
+    if sys.argv[1:] == ["--write"]:
+        TABLE.write_text(written)
+    print(f"{len(rows) - failed} passed, {failed} failed")
+    sys.exit(failed > 0)
+
+
+main()
