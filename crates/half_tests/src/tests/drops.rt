@@ -197,7 +197,10 @@ fn declare<'a>(
     name: u64,
     dropped: &'a Cell<u64>,
 ) -> Result<(), Refusal> {
-    scopes.declare(Item::new(name, dropped), Item::new(name.saturating_add(4), dropped))?;
+    scopes.declare(
+        Item::new(name, dropped),
+        Item::new(name.saturating_add(4), dropped),
+    )?;
     Ok(())
 }
 

@@ -1,5 +1,5 @@
 -- What a search of the columns or of the index says of the store over them.
-use Rattle.half_store.proofs.Common.{◌≡◌, ◌≤◌, length, ◌+◌, refl, ◌∙◌, arith, ℕ, sym, ap, Bool, List, Some, Option, None, subst, length-keys_of}
+use Rattle.half_store.proofs.Common.{◌≡◌, ◌≤◌, length, refl, ◌∙◌, arith, ℕ, sym, ap, Bool, List, Some, Option, None, subst, length-keys_of}
 use Rattle.half_store.proofs.Common.{slice_get_within, slice_get, ColumnsState, ReturnsAt, vector_of, table_of, TableState, TableSearch}
 use Rattle.half_store.proofs.Common.{Work, capacity_of, buckets_of}
 use Rattle.std.proofs.Common.{Ok, Err, true≢false}

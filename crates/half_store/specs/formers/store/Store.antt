@@ -2,7 +2,7 @@
 use Rattle.std.specs.Prelude.{◌≡◌, ℕ, Bool, List, Option, None, Some}
 use Rattle.std.specs.Global.{Box}
 use Rattle.half_store.specs.FormerNames.{values_of, entry, on_value, entries_puts, entries_recoded, values_listed, Former, children, const, list, pair, this}
-use Rattle.half_store.specs.FormerNames.{via, refl, sym, ap, ◌∙◌, ℕ_set, length-map, gcons, coded×, coded_ℕ, coded_bool, coded_list, RattleType, listed, over}
+use Rattle.half_store.specs.FormerNames.{via, refl, sym, ap, ◌∙◌, ℕ_set, length-map, gcons, coded×, coded_ℕ, coded_bool, RattleType, listed, over}
 use Rattle.half_store.specs.FormerNames.{Alike, Recodes, struct_places, laid, held, view_places, Weighed, most}
 use Rattle.half_store.specs.Columns.{ColumnsState, no_pairs}
 use Rattle.half_store.specs.Store.{StoreState, IsStore, store_of, vector_of}

@@ -69,7 +69,6 @@ module _ {X : Type 0} where
   pub gives_in_order : GivesInOrder X
   gives_in_order p s = as_is p p.from (from_front (TakesFirst (λ x. x)) (λ x. x) (λ s. s) (λ s t h. ap length h.0) (λ s x t h. h) p s)
 
-
 module _ {S K V : Type 0} (left : S → List (K × V)) where
   pub lends_values_in_order : LendsValuesInOrder left
   lends_values_in_order =

@@ -1,4 +1,4 @@
-use Rattle.half_store.proofs.Common.{◌≡◌, length, ◌+◌, ◌∙◌, arith, ◌<◌, suc, sym, ap, subst, set, length-set, capacity_of, IsSlotVacancy, state_of_words}
+use Rattle.half_store.proofs.Common.{◌≡◌, length, ◌+◌, ◌∙◌, arith, ◌<◌, suc, sym, ap, subst, set, length-set, capacity_of, state_of_words}
 use Rattle.half_store.proofs.Common.{AreWordsFor, words_of}
 use Rattle.half_store.specs.Table.{with_hash_in, IsTableVacancy}
 use Rattle.half_store.proofs.lemmas.table.Layout.{IsIndexed-add, IsTable-as, count_seen}

@@ -1,4 +1,4 @@
-use Rattle.halfbrown.proofs.Common.{arith, subst, common_steps, found_index, IsSearchCost, state_in, State}
+use Rattle.halfbrown.proofs.Common.{arith, subst, common_steps, found_index, IsSearchCost, State}
 use Rattle.halfbrown.proofs.lemmas.map.Find.{match_costs, matches_of}
 use Rattle.halfbrown.proofs.map.LimitedHashMap.find_match.Goals as goal
 
