@@ -1,6 +1,6 @@
 #!/usr/bin/env python3
-"""Runs halfmap over pipes that nobody should have, and takes its input, its output and its memory away. What it answers to a line
-its contract says; here is shown when the answers come, and what is left where something fails.
+"""Runs halfmap over pipes that nobody should have, and takes its input, its output and its memory away. What it answers to a
+line its contract says; here is shown when the answers come, and what is left where something fails.
 
 The program is the one that HALFMAP names, or the proved one. The last line is "N passed, M failed".
 """
