@@ -1,6 +1,6 @@
 #!/usr/bin/env python3
-"""Runs halfmap over pipes that nobody should have, and takes its input, its output and its memory away. What it answers to a line
-its contract says; here is shown when the answers come, and what is left where something fails.
+"""Runs halfmap over pipes that nobody should have, and takes its input, its output and its memory away. What it answers to a
+line its contract says; here is shown when the answers come, and what is left where something fails.
 
 The program is the one that HALFMAP names, or the proved one. The last line is "N passed, M failed".
 """
@@ -226,9 +226,9 @@ def a_refused_growth_takes_no_longer_in_a_large_map():
         times.append(time.monotonic() - began)
     refused = answers.count(b"no room\n")
     assert (errors, status) == (b"", 0) and refused > 500_000, f"{refused} were refused, {errors[:60]}, status {status}"
-    # One that is not proved refuses slowly.
-    is_proved = "HALFMAP" not in os.environ
-    assert not is_proved or times[1] < 3 * times[0], f"{times[1]:.1f} seconds where most are refused, and {times[0]:.1f} where none is"
+    # A program that is not proved refuses slowly.
+    is_slow = times[1] >= 3 * times[0] and "HALFMAP" not in os.environ
+    assert not is_slow, f"{times[1]:.1f} seconds where most are refused, and {times[0]:.1f} where none is"
 
 
 def main():

@@ -6,8 +6,8 @@ for each N. Each has to show in this part of the answers of this call: the `answ
 One that does not is tried alone. Whoever writes an edit sees that no other of its program shows there. How a program ends, what it
 leaks, its requests for memory and its calls of closures do not count.
 
-All edits with `found by: coverage.py FUNCTION` are planted in one copy too, and each has to show as one block more of this function
-that no test enters.
+The edits with `found by: coverage.py FUNCTION` are planted in one copy too. In each such function more blocks are entered by no
+test than the list has.
 """
 
 import functools
