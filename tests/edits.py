@@ -8,7 +8,7 @@ of a line `old: TEXT` stands once in that file, and that of `new: TEXT` takes it
 file of the crate. The prover has to refuse the edit: a contract that lets a fault through is too weak. With a line
 `refused by: CLAUSE` it has to be a goal of this clause that is not proved; where a call has one clause, the line names the goal of
 a return. Where no contract can, `found by: FILE` names the script or the search that finds it, or `the tests of half_tests`, or
-`the random run 1, work of clear`, or `coverage.py FUNCTION` (planted.py), and a comment says why.
+`the random run 1, work of clear`, `coverage.py FUNCTION` or `instructions.py ROW SIZE` (planted.py), and a comment says why.
 
 The crates are proved first, where out/ lacks that. Then several checks run at a time, each in a copy of the sources with links
 of out/. A check tries several edits that change different functions: a caller is proved by the contracts of what it calls, so

@@ -25,28 +25,28 @@ SIZES = 10, 1_000, 30_000
 APART, GROWTH, ROUNDED = 0.01, 1.3, 0.005
 
 
-def own(profile):
+def own(profile, program):
     """The instructions of the program's own functions. The line behind `calls=` has those of what is called."""
     total, is_own, is_called = 0, False, False
     for line in profile.splitlines():
         if line.startswith("ob="):
-            is_own = line == f"ob={PROGRAM}"
+            is_own = line == f"ob={program}"
         elif line[:1] in "+-*0123456789" and line:
             total += int(line.split()[1]) if is_own and not is_called else 0
         is_called = line.startswith("calls=")
     return total
 
 
-def count(row, size):
+def count(row, size, program=PROGRAM):
     """How many instructions an operation takes: those between the two looks at the clock."""
     *call, keys = row.split()
     with tempfile.TemporaryDirectory() as folder:
         options = [f"--callgrind-out-file={folder}/out", "--dump-before=clock_gettime*", "--compress-strings=no"]
-        command = ["valgrind", "-q", "--tool=callgrind", *options, PROGRAM, "count", keys, *call, str(size)]
+        command = ["valgrind", "-q", "--tool=callgrind", *options, program, "count", keys, *call, str(size)]
         ran = subprocess.run(command, capture_output=True, text=True)
         if ran.returncode:
             raise SystemExit(f"{row} {size}: {ran.stderr}")
-        return own(pathlib.Path(folder, "out.2").read_text()) / int(ran.stdout.split()[0])
+        return own(pathlib.Path(folder, "out.2").read_text(), program) / int(ran.stdout.split()[0])
 
 
 def lines(words):
@@ -85,4 +85,5 @@ def main():
     sys.exit(failed > 0)
 
 
-main()
+if __name__ == "__main__":
+    main()

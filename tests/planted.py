@@ -7,7 +7,7 @@ One that does not is tried alone. Whoever writes an edit sees that no other of i
 leaks, its requests for memory and its calls of closures do not count.
 
 The edits with `found by: coverage.py FUNCTION` are planted in one copy too. In each such function more blocks are entered by no
-test than the list has.
+test than the list has. Those with `found by: instructions.py ROW SIZE` are planted in one program. Each makes its row longer.
 """
 
 import functools
@@ -20,6 +20,7 @@ import shutil
 import subprocess
 import tempfile
 
+import instructions
 from model.lines import name_of
 from random_scripts import FIRST_LINES, LONG, make_script
 from scripts import agrees, compile_allocator, play
@@ -32,7 +33,7 @@ PROGRAM = "witness"
 RANDOM_RUN, SCRIPTS, FIRST_LINE = re.compile(r"the random run (\d+), (.*)"), 60, ("map", "5")
 PARTS = ("answer", "work", "state", "drops")
 TESTED, OF_TESTS = "half_tests", "the tests of half_tests"
-COVERAGE = "coverage.py "
+COVERAGE, INSTRUCTIONS, COUNTED = "coverage.py ", "instructions.py ", "half_bench"
 
 
 def crates_of(*names):
@@ -66,9 +67,14 @@ def build(folder, first_lines):
     kinds, limits = zip(*first_lines)
     text = arm.sub(lambda it: it[0] if it[1] in limits else "", script.read_text())
     script.write_text(text if "owning" in kinds else owning.sub("", text))
+    return build_program(folder, PROGRAM)
+
+
+def build_program(folder, name):
+    """Builds a program of this copy, and returns where it is."""
     (folder / "tests").mkdir()
-    tool, program = shutil.copy(TESTS / "build_unproved.sh", folder / "tests"), folder / PROGRAM
-    built = subprocess.run([tool, PROGRAM, program], capture_output=True, text=True)
+    tool, program = shutil.copy(TESTS / "build_unproved.sh", folder / "tests"), folder / name
+    built = subprocess.run([tool, name, program], capture_output=True, text=True)
     if not program.exists():
         raise ValueError(f"it does not compile: {(built.stdout + built.stderr).strip()[-200:]}")
     return program
@@ -116,6 +122,16 @@ def said_by_coverage(folder, edits):
     return [it and it[0] for it in found]
 
 
+def said_by_count(folder, edits):
+    """How many instructions each row takes, if these are more than where nothing is planted, or None."""
+    rows = [edit.found_by.removeprefix(INSTRUCTIONS).rpartition(" ") for edit in edits]
+    with tempfile.TemporaryDirectory(prefix="counted-") as other:
+        unedited = copy_sources(pathlib.Path(other, "copy"), crates_of(COUNTED))
+        programs = build_program(folder, COUNTED), build_program(unedited, COUNTED)
+        counts = [[instructions.count(row, size, program) for program in programs] for row, _, size in rows]
+    return [f"{row}: {new:.2f}, not {old:.2f}" if new > 1.01 * old else None for (row, *_), (new, old) in zip(rows, counts)]
+
+
 @functools.cache
 def scripts_at_random():
     first_lines = [(kind, str(limit)) for kind, limit in FIRST_LINES]
@@ -156,8 +172,8 @@ def in_programs(edits):
     programs = {}
     for edit in edits:
         run = RANDOM_RUN.fullmatch(edit.found_by)
-        is_covered = edit.found_by.startswith(COVERAGE)
-        programs.setdefault(run[1] if run else COVERAGE if is_covered else str(edit), []).append(edit)
+        together = [it for it in (COVERAGE, INSTRUCTIONS) if edit.found_by.startswith(it)]
+        programs.setdefault(run[1] if run else "".join(together) or str(edit), []).append(edit)
     for program in programs.values():
         if len({edit.found_by for edit in program}) < len(program):
             raise ValueError(f"two edits of one program name the same part: {program[0].found_by}")
@@ -188,6 +204,8 @@ def attempt(edits):
             shown = said_by_tests(folder)
         elif found_by.startswith(COVERAGE):
             shown = said_by_coverage(folder, edits)
+        elif found_by.startswith(INSTRUCTIONS):
+            shown = said_by_count(folder, edits)
         else:
             shown = said_by_search(finder, folder, edits[0]) if is_search else said_by_script(found_by, folder)
     found = [(bool(it), it or f"{edit.found_by} does not find it") for edit, it in zip(edits, [*shown, None])]

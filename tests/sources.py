@@ -40,6 +40,7 @@ $of.$call($($given,)* &mut $crate::Tally::new()) }; ($($call:ident)::+($($given:
 $($call)::+($($given,)* &mut $crate::Tally::new()) }; }
 half_store/src/words of_either_size { ($array:expr, $words:ident => $call:expr) => { match $array { \
 $crate::words::WordArray::FourBytes($words) => $call, $crate::words::WordArray::EightBytes($words) => $call, } }; }
+half_set/src/hash_set is_subset..{ self.iter().all(|value| other.contains(value)) }
 halfbrown/src/key_hasher hash_key..{ counting::hash_one(self, key, tally) }
 halfbrown/src/equivalent same_text..{ left == right }
 halfbrown/src/map/capacity shrink_to_fit..{ let _ = self.store.shrink_to_fit(L::LIMIT); }
