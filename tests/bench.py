@@ -243,7 +243,7 @@ def main():
     known = [*OPERATIONS, *KEYS, *map(str, SIZES), *([] if other else OTHERS)]
     if unknown := [it for it in words if it not in known]:
         sys.exit(f"{unknown[0]}: not one of {' '.join(known)}")
-    minutes = math.ceil(1.1 * rounds * (2 * ORDERS if other else 1))
+    minutes = math.ceil(0.6 * rounds * (2 * ORDERS if other else 1))
     print(f"After the proofs, all rows take about {minutes} minutes", file=sys.stderr)
     rows = [it for it in words if it not in OTHERS]
     with tempfile.TemporaryDirectory() as folder:
