@@ -2,8 +2,9 @@
 //
 // The program marks each call by a write of no bytes to standard output, right before it, and one that may be refused
 // memory by two. From the mark to the end of the line that it writes then, its requests are counted, and the line gets
-// one field more, ` | requests N`. Of the requests of a call that was marked twice these return NULL: all, or, where
-// REFUSE_FROM is set, those from REFUSE_FROM to REFUSE_TO, counted from 1 in the call.
+// two fields more, ` | requests N | peak BYTES`: how many bytes more than before the call were granted at a time. A block
+// that gets another size counts twice meanwhile. Of the requests of a call that was marked twice these return NULL: all,
+// or, where REFUSE_FROM is set, those from REFUSE_FROM to REFUSE_TO, counted from 1 in the call.
 //
 // With REFUSE_UNMARKED nothing is marked: all requests of the program are counted, from its start, those from
 // REFUSE_FROM to REFUSE_TO return NULL, and a line on standard error tells of each.
@@ -27,8 +28,12 @@ static int marks;
 static long requests;
 // Whether the last thing that was written was a mark.
 static int is_right_after_mark;
-// How many blocks are granted and not freed.
-static long blocks;
+// How many blocks are granted and not freed, and their bytes.
+static long blocks, granted;
+// These bytes when the call was marked, and the most that they were since.
+static long granted_before, most_granted;
+// Before each block stands its size, in as many bytes as blocks are aligned to.
+enum { HEAD = 16 };
 
 // The number that a variable of the environment gives, or another one.
 static long number(const char *name, long otherwise) {
@@ -55,22 +60,38 @@ static int is_refused(void) {
     return 1;
 }
 
-static void *counted(void *block) {
-    blocks += block != NULL;
-    return block;
+// The block behind this head, which has this size.
+static void *counted(long *head, size_t size) {
+    if (head == NULL)
+        return NULL;
+    *head = size;
+    blocks++;
+    granted += size;
+    if (most_granted < granted)
+        most_granted = granted;
+    return (char *)head + HEAD;
+}
+
+// The head of a block that is no longer counted.
+static long *uncounted(void *block) {
+    if (block == NULL)
+        return NULL;
+    long *head = (long *)((char *)block - HEAD);
+    blocks--;
+    granted -= *head;
+    return head;
 }
 
 void *malloc(size_t size) {
-    return is_refused() ? NULL : counted(__libc_malloc(size));
+    return is_refused() ? NULL : counted(__libc_malloc(HEAD + size), size);
 }
 
 void *calloc(size_t count, size_t size) {
-    return is_refused() ? NULL : counted(__libc_calloc(count, size));
+    return is_refused() ? NULL : counted(__libc_calloc(1, HEAD + count * size), count * size);
 }
 
 void free(void *block) {
-    blocks -= block != NULL;
-    __libc_free(block);
+    __libc_free(uncounted(block));
 }
 
 void *realloc(void *block, size_t size) {
@@ -78,15 +99,19 @@ void *realloc(void *block, size_t size) {
         free(block);
         return NULL;
     }
-    if (is_refused())
-        return NULL;
-    void *moved = __libc_realloc(block, size);
-    return block == NULL ? counted(moved) : moved;
+    void *moved = malloc(size);
+    if (moved != NULL && block != NULL) {
+        long before = *(long *)((char *)block - HEAD);
+        memcpy(moved, block, before < (long)size ? before : (long)size);
+        free(block);
+    }
+    return moved;
 }
 
 static void mark(void) {
     marks = is_right_after_mark ? marks + 1 : 1;
     requests = 0;
+    granted_before = most_granted = granted;
     is_right_after_mark = 1;
 }
 
@@ -101,12 +126,12 @@ static int write_all(const char *bytes, size_t size) {
     return 1;
 }
 
-// Writes bytes that have the end of the line of the marked call, with the number of its requests before that end.
-static ssize_t write_with_requests(const char *bytes, size_t size, const char *end) {
-    char field[40];
-    int length = snprintf(field, sizeof field, " | requests %ld", requests);
+// Writes bytes that have the end of the line of the marked call, with its requests and its peak before that end.
+static ssize_t write_with_fields(const char *bytes, size_t size, const char *end) {
+    char fields[80];
+    int length = snprintf(fields, sizeof fields, " | requests %ld | peak %ld", requests, most_granted - granted_before);
     marks = 0;
-    int is_written = write_all(bytes, end - bytes) && write_all(field, length) && write_all(end, bytes + size - end);
+    int is_written = write_all(bytes, end - bytes) && write_all(fields, length) && write_all(end, bytes + size - end);
     return is_written ? (ssize_t)size : -1;
 }
 
@@ -119,7 +144,7 @@ ssize_t write(int file, const void *bytes, size_t size) {
     }
     is_right_after_mark = 0;
     const char *end = marks > 0 ? memchr(bytes, '\n', size) : NULL;
-    return end == NULL ? syscall(SYS_write, file, bytes, size) : write_with_requests(bytes, size, end);
+    return end == NULL ? syscall(SYS_write, file, bytes, size) : write_with_fields(bytes, size, end);
 }
 
 __attribute__((destructor)) static void tell_what_is_kept(void) {

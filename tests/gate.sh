@@ -82,9 +82,6 @@ build() { make --no-print-directory -s "out/covered/$1" || { rm -f "out/covered/
 # Where it stands, or what `rt ci` has built.
 program() { [ "$mode" = proved ] && echo "$PWD/crates/$1/out/$1" || echo "$PWD/out/covered/$1"; }
 
-# prints NAME: on its stored input a program prints its stored output.
-prints() { "$(program "$1")" <"crates/$1/stdin" | diff "crates/$1/stdout" -; }
-
 # Two megabytes of words are counted. They are long, since a program that is not proved counts slowly.
 counts_many() {
     local words="internationalization electroencephalographically otorhinolaryngological"
@@ -148,8 +145,8 @@ part tc "unproved halfmap" "build of halfmap" tests/halfmap.py
 part tpc "documents" "build of json_at" tests/documents.py
 part tp "what make says" "build of halfmap" says
 part tpc "many words" "build of word_count" counts_many
-part tpc "json_at" "build of json_at" prints json_at
-part tpc "word_count" "build of word_count" prints word_count
+part tpc "json_at" "build of json_at" tests/programs.py json_at "$(program json_at)"
+part tpc "word_count" "build of word_count" tests/programs.py word_count "$(program word_count)"
 part tp "sources" - tests/sources.py
 # Its tests are built where all is proved.
 part p "refused reads" - tests/refused_reads.py

@@ -121,8 +121,8 @@ def plays_of(part, library):
     if len(refused) == 1:
         granted = answers(part.lines, NONE)
         plays.append(("the model, no request refused", granted))
-        number = granted[refused[0]].split(" ")[-1]
-        most = int(number) if number.isdigit() else 0
+        requests = re.search(r"requests (\d+) ", granted[refused[0]])
+        most = int(requests[1]) if requests else 0
         for first, last in [(it, it) for it in range(1, most + 2)] + [(it, it + 1) for it in range(1, most + 1)]:
             said = f"the program, requests {first} to {last} refused"
             plays.append((said, play(part.lines, library, (first, last))))

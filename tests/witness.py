@@ -3,8 +3,8 @@
 
     tests/witness.py [N] [SEED]    makes N scripts, 600 if not said, from a seed
 
-The scripts are in the language of docs/SCRIPTS.md. Beside each answer its work, its drops and its requests for memory are
-compared; allocator.c refuses all requests of `refused` calls, or in some scripts one of each. Where a script differs, lines
+The scripts are in the language of docs/SCRIPTS.md. Beside each answer its work, its drops and its memory are compared;
+allocator.c refuses all requests of `refused` calls, or in some scripts one of each. Where a script differs, lines
 are taken out as long as it still differs, and what is left is printed with both answers. A table says how often each call
 was met and refused, and what model/coverage.py demands has to be met, except by fewer than 600 scripts. The last line is
 "N passed, M failed": the scripts, and what is demanded.

@@ -62,7 +62,7 @@ def collect(a, items, limit=None, hint=None):
 def from_array(a, items, limit=None):
     """Its pairs first go into a vector, which takes memory unless there are none."""
     if items:
-        a.work.request(1)
+        a.work.request(1, len(items) * (a.work.key_bytes + a.work.value_bytes))
     return collect(a, items, limit)
 
 

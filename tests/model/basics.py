@@ -9,6 +9,7 @@ MOST_PAIRS = 2**60
 MANY = "20 to 70"
 # Which requests for memory a `refused` call is refused, from one to another, counted from 1: all, or none.
 ALL, NONE = (1, 2**62), (0, 0)
+SMALL_BYTES = 8
 RULES = {"plain": lambda key: key.id, "zero": lambda key: 0, "top": lambda key: GREATEST}
 
 
@@ -59,15 +60,20 @@ class Pair:
 
 @dataclasses.dataclass
 class Work:
-    """What one line does that is counted, which of its requests for memory are refused, and whether keys have 8 bytes."""
+    """What one line does that is counted, which of its requests for memory are refused, and how large keys and values are."""
 
     refused: tuple = NONE
-    are_small: bool = False
+    key_bytes: int = 48
+    value_bytes: int = 8
     hashes: int = 0
     # Of the comparisons of keys the least and the most are known.
     least: int = 0
     most: int = 0
     requests: int = 0
+    # The bytes that are granted beside those before the line, the most that they were at least, and at most.
+    granted: int = 0
+    peak: int = 0
+    most_peak: int = 0
     # Which request was refused last.
     refused_at: int = 0
     # How often the closure was called that the line hands in.
@@ -80,23 +86,34 @@ class Work:
     refusals: set = dataclasses.field(default_factory=set)
 
     def __str__(self):
-        return f"{self.hashes} {self.least}" + (f"..{self.most}" if self.most > self.least else "")
+        return f"{self.hashes} {span(self.least, self.most)}"
+
+    @property
+    def are_small(self):
+        return self.key_bytes == SMALL_BYTES
+
+    def peak_bytes(self):
+        """Small keys have boxes, whose bytes are not counted here."""
+        return span(0, GREATEST) if self.are_small else span(self.peak, self.most_peak)
 
     def compare(self, least, most):
         self.least, self.most = self.least + least, self.most + most
 
-    def try_to_request(self, count):
-        """Makes requests for memory, up to the first that is refused. Returns whether none is."""
+    def try_to_request(self, count, in_all=0):
+        """Makes requests for memory, of these bytes in all, up to the first that is refused. Returns whether none is."""
         first, last = max(self.refused[0], self.requests + 1), min(self.refused[1], self.requests + count)
+        self.most_peak = max(self.most_peak, self.granted + in_all)
         if first > last:
             self.requests += count
+            self.granted += in_all
+            self.peak = max(self.peak, self.granted)
             return True
         self.requests = self.refused_at = first
         self.refusals.add("memory")
         return False
 
-    def request(self, count):
-        if not self.try_to_request(count):
+    def request(self, count, in_all):
+        if not self.try_to_request(count, in_all):
             raise Refused("memory")
 
     def clone(self, pairs):
@@ -117,6 +134,10 @@ class Work:
 
 def text_of(is_true):
     return "true" if is_true else "false"
+
+
+def span(least, most):
+    return f"{least}..{most}" if most > least else str(least)
 
 
 def list_of(items, between=" "):

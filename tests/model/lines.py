@@ -38,7 +38,7 @@ import dataclasses
 import re
 
 from model.all_pairs import BOTH_CALLS, OF_A_CALLS
-from model.basics import GREATEST, NOTHING, RULES, BadLine, Key
+from model.basics import GREATEST, NOTHING, RULES, SMALL_BYTES, BadLine, Key
 from model.one_key import ONE_KEY_CALLS
 from model.runs import COMMANDS, run
 from model.walk import WALK_CALLS, steps_of
@@ -46,6 +46,8 @@ from model.walk import WALK_CALLS, steps_of
 # After `owning` values count their drops, after `unit` they have no size, and after `small` keys have 8 bytes.
 LIMITS = {"map": (0, 1, 2, 3, 4, 5, 8, 32, 64, 2**60, GREATEST), "owning": (0, 1, 2, 3, 5, 32, GREATEST)}
 LIMITS |= {"unit": (20,), "small": (3, 32, 64)}
+# The bytes of a key and of a value.
+BYTES = {"map": (48, 8), "owning": (48, 48), "unit": (48, 0), "small": (SMALL_BYTES, 8)}
 OTHER_LIMITS = (0, 5, GREATEST)
 PLAIN_MAKERS = ("new", "default", "with_hasher")
 MAKERS_FOR = ("with_capacity", "with_capacity_and_hasher", "vec_with_capacity")

@@ -2,11 +2,13 @@
 
 import dataclasses
 
-from model.basics import MANY, RULES, Pair, Work
+from model.basics import MANY, RULES, Pair, Refused, Work
 
 # How many requests for memory the columns make, of keys and of values, and beside them the arrays of a table, and the block in
 # which it stands.
 COLUMNS, ARRAYS, BLOCK = 2, 2, 1
+# The bytes of a hash, of the word of a bucket, and of that block.
+HASH_BYTES, WORD_BYTES, BLOCK_BYTES = 8, 4, 56
 
 
 def table_capacity(pairs):
@@ -48,10 +50,26 @@ class Map:
         """A map that `with_hasher` makes with the same limit and rule."""
         return Map(self.limit, self.rule, work=self.work)
 
-    def grow(self, capacity, is_vec):
-        """The arrays of a table are made anew, and the columns grow. A vector that becomes a table gets a block for it."""
-        self.work.request(COLUMNS if is_vec else COLUMNS + ARRAYS + (BLOCK if self.is_vec else 0))
+    def bytes_of(self, capacity, is_vec):
+        """What a map of this form takes. A column of values without a size takes one byte."""
+        columns = capacity * self.work.key_bytes + max(1, capacity * self.work.value_bytes)
+        table = BLOCK_BYTES + capacity * HASH_BYTES + capacity // 3 * 4 * WORD_BYTES
+        return capacity and columns + (0 if is_vec else table)
+
+    def try_to_move(self, capacity, is_vec):
+        """Makes all arrays anew, and then frees the old ones. A vector that becomes a table gets a block for it, which a table
+        keeps. Returns whether all memory is granted. For no capacity none is needed."""
+        kept = 0 if self.is_vec or is_vec else BLOCK_BYTES
+        count = COLUMNS if is_vec else COLUMNS + ARRAYS + (BLOCK if self.is_vec else 0)
+        if not self.work.try_to_request(count if capacity else 0, self.bytes_of(capacity, is_vec) - kept):
+            return False
+        self.work.granted -= self.bytes_of(self.capacity, self.is_vec) - kept
         self.is_vec, self.capacity = is_vec, capacity
+        return True
+
+    def grow(self, capacity, is_vec):
+        if not self.try_to_move(capacity, is_vec):
+            raise Refused("memory")
 
     def require(self, pairs):
         """Makes the capacity enough for this number of pairs. A vector's doubles, from eight on, up to the limit."""
@@ -72,15 +90,12 @@ class Map:
             self.work.hashes += self.limit
 
     def shrink_to_fit(self):
-        """A table of no more pairs than the limit becomes a vector of the same pairs. All memory comes first: where it is
-        refused nothing changes, and for no capacity none is needed."""
-        needed = len(self.pairs)
-        is_vec = self.is_vec or needed <= self.limit
+        """A table of no more pairs than the limit becomes a vector of the same pairs. Refused memory changes nothing."""
+        needed, was_vec = len(self.pairs), self.is_vec
+        is_vec = was_vec or needed <= self.limit
         capacity = needed if is_vec else table_capacity(needed)
-        arrays = COLUMNS if is_vec else COLUMNS + ARRAYS
-        if capacity in (0, self.capacity) or self.work.try_to_request(arrays):
-            self.has_gone_back = self.has_gone_back or is_vec and not self.is_vec
-            self.is_vec, self.capacity = is_vec, capacity
+        if capacity != self.capacity and self.try_to_move(capacity, is_vec) and is_vec and not was_vec:
+            self.has_gone_back = True
 
     def candidates(self, hash_):
         """The pairs whose keys a search may compare: in a table those of the hash alone."""

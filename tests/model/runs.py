@@ -42,7 +42,7 @@ def reply(a, command, said):
 
 
 def run(a, commands):
-    """The replies are memory that is had first."""
+    """The replies are memory that is had first. Each takes 24 bytes beside a key and a value."""
     if commands:
-        a.work.request(1)
+        a.work.request(1, len(commands) * (a.work.key_bytes + a.work.value_bytes + 24))
     return list_of([reply(a, *command) for command in commands], "; ")

@@ -1,8 +1,8 @@
 """A script on the model, line by line: what each line is answered, and what it meets."""
 
-from model.basics import ALL, NONE, BadLine, Pair, Refused, Work
+from model.basics import ALL, GREATEST, NONE, BadLine, Pair, Refused, Work
 from model.coverage import MET, answered_by, met_by
-from model.lines import CALLS, CALLS_ON_A, WITH_TEXT, keys_in, read_call, read_first
+from model.lines import BYTES, CALLS, CALLS_ON_A, WITH_TEXT, keys_in, read_call, read_first
 from model.map import Map
 
 
@@ -46,7 +46,7 @@ class Session:
 
     def answer_call(self, line):
         call = read_call(line, self.kind)
-        work = self.a.work = self.b.work = Work(self.refuse if call.is_refused else NONE, self.kind == "small")
+        work = self.a.work = self.b.work = Work(self.refuse if call.is_refused else NONE, *BYTES[self.kind])
         met, held = met_by(call, self.a), self.held()
         try:
             answer = CALLS[call.pattern](self.a if call.pattern in CALLS_ON_A else self, *call.said)
@@ -57,8 +57,10 @@ class Session:
         gone = held + work.cloned - self.held()
         dropped = f"dropped {keys_in(call.said) + gone} {call.values() + gone if self.kind == 'owning' else 0}"
         called = f" | called {work.called}" if call.pattern.endswith(" *") else ""
-        requests = "0..1000" if call.pattern in WITH_TEXT else work.requests
-        return f"{answer} | {work} | {self.a} | {dropped}{called} | requests {requests}"
+        memory = f"requests {work.requests} | peak {work.peak_bytes()}"
+        if call.pattern in WITH_TEXT:
+            memory = f"requests 0..1000 | peak 0..{GREATEST}"
+        return f"{answer} | {work} | {self.a} | {dropped}{called} | {memory}"
 
 
 def answers(lines, refuse=ALL):

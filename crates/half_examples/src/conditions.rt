@@ -1,5 +1,5 @@
-//! Callers of the calls that have a condition, each of which finds it met before it calls. The edits of `must-fail` take that
-//! away, one at a time, and the prover refuses each.
+//! Callers of calls that have a condition, each of which finds it met before it calls. An edit of `must-fail` takes that away in
+//! each, and the prover refuses it.
 
 use halfbrown::{HashMap, RawEntryMut, Refusal};
 use std::hash::BuildHasher;

@@ -1,6 +1,7 @@
 //! What no contract and no script says, run as tests.
 
 mod callers;
+mod drops;
 mod json;
 mod queries;
 mod refused_clones;

@@ -14,7 +14,8 @@ use std::mem::replace;
 /// The names of one scope. Most scopes have few: these are searched by `==`, and nothing is hashed.
 type Scope<N, M> = SizedHashMap<N, M, DefaultHashBuilder, 8>;
 
-/// A chain of scopes: an innermost one, and those around it. A name means what the innermost scope that declares it says.
+/// A chain of scopes: an innermost one, and those around it. A name means what the innermost scope that declares it says. A drop
+/// begins with the innermost scope, and goes on from the outermost.
 #[derive(Drop)]
 pub struct Scopes<N: Eq + Hash, M> {
     innermost: Scope<N, M>,

@@ -1,8 +1,11 @@
-//! Maps of texts, printed and under random hashes, and the text of an error.
+//! Maps of texts under random hashes, and what is printed: the forms of a text, and the text of an error.
 
 use half_callers::basics::ages_by_names_of_others;
+use half_uses::object::Object;
 use halfbrown::{HashMap, Refusal, Refused, RefusedKey, SizedHashMap};
+use json_value::{Error, Value};
 use std::alloc::Global;
+use std::fmt::Debug;
 use std::hash::RandomState;
 use std::io;
 use std::test::Fail;
@@ -23,17 +26,79 @@ fn texts_are_printed_in_order(rt: HostRuntime) -> Result<(), Fail> {
     assert_printed::<0>(rt.alloc())
 }
 
-// Each key and each value has the width.
+// Plain, in lines, with signs, and with a width, which is that of each key and of each value.
+fn assert_forms<T: Debug>(alloc: Global, shown: &T, expected: [&str; 4]) -> Result<(), Fail> {
+    let text = format!(in alloc; "{shown:?}")?;
+    assert_same(text.as_str(), expected[0], "plain")?;
+    let text = format!(in alloc; "{shown:#?}")?;
+    assert_same(text.as_str(), expected[1], "in lines")?;
+    let text = format!(in alloc; "{shown:+?}")?;
+    assert_same(text.as_str(), expected[2], "with signs")?;
+    let text = format!(in alloc; "{shown:5?}")?;
+    assert_same(text.as_str(), expected[3], "with a width")
+}
+
 #[test]
-fn a_width_and_lines_are_those_of_each_pair(rt: HostRuntime) -> Result<(), Fail> {
+fn forms_are_those_of_each_pair(rt: HostRuntime) -> Result<(), Fail> {
     let alloc = rt.alloc();
     let mut map = HashMap::<u64, u64>::new(alloc);
     map.insert(7, 70)?;
-    map.insert(1000000, 8)?;
-    let text = format!(in alloc; "{map:5?}")?;
-    assert_same(text.as_str(), "{    7:    70, 1000000:     8}", "a width")?;
-    let text = format!(in alloc; "{map:#?}")?;
-    assert_same(text.as_str(), "{\n    7: 70,\n    1000000: 8,\n}", "lines")
+    let forms = ["{7: 70}", "{\n    7: 70,\n}", "{+7: +70}", "{    7:    70}"];
+    assert_forms(alloc, &map, forms)?;
+    let mut members = Object::new(alloc);
+    members.set(7u64, 70u64)?;
+    assert_forms(alloc, &members, forms)?;
+    let forms = [
+        "[(7, 70)]",
+        "[\n    (\n        7,\n        70,\n    ),\n]",
+        "[(+7, +70)]",
+        "[(    7,    70)]",
+    ];
+    assert_forms(alloc, &map.iter(), forms)
+}
+
+#[test]
+fn forms_of_entries(rt: HostRuntime) -> Result<(), Fail> {
+    let alloc = rt.alloc();
+    let mut map = HashMap::<u64, u64>::new(alloc);
+    let forms = [
+        "Entry(VacantEntry(7))",
+        "Entry(\n    VacantEntry(\n        7,\n    ),\n)",
+        "Entry(VacantEntry(+7))",
+        "Entry(VacantEntry(    7))",
+    ];
+    assert_forms(alloc, &map.entry(7)?, forms)?;
+    map.insert(7, 70)?;
+    let forms = [
+        "Entry(OccupiedEntry { key: 7, value: 70 })",
+        "Entry(\n    OccupiedEntry {\n        key: 7,\n        value: 70,\n    },\n)",
+        "Entry(OccupiedEntry { key: +7, value: +70 })",
+        "Entry(OccupiedEntry { key:     7, value:    70 })",
+    ];
+    assert_forms(alloc, &map.entry(7)?, forms)
+}
+
+#[test]
+fn forms_of_a_json_value(rt: HostRuntime) -> Result<(), Fail> {
+    let value = Value::parse(rt.alloc(), r#"{"a": [null]}"#)?;
+    let plain = r#"Object({"a": List([Null])})"#;
+    let lines =
+        "Object(\n    {\n        \"a\": List(\n            [\n                Null,\n            ],\n        ),\n    },\n)";
+    assert_forms(rt.alloc(), &value, [plain, lines, plain, plain])
+}
+
+#[test]
+fn errors_of_json_have_texts(rt: HostRuntime) -> Result<(), Fail> {
+    for (error, expected) in [
+        (Error::Invalid, "this is no JSON"),
+        (Error::NoObject, "this is no object"),
+        (Error::NotThere, "the path leads to no value"),
+        (Error::Memory, "memory could not be allocated"),
+    ] {
+        let text = format!(in rt.alloc(); "{error}")?;
+        assert_same(text.as_str(), expected, "the text")?;
+    }
+    Ok(())
 }
 
 #[test]

@@ -80,7 +80,15 @@ fn written_pairs(rt: HostRuntime) -> Result<(), Fail> {
     assert_same(two, (2, Some("one"), Some("two")), "two names, by index")?;
     assert_same(names.get(&3).copied(), None, "no third")?;
     let none: Letters = hashmap! {in alloc;}?;
-    assert_same(none.len(), 0, "no names")
+    assert_same((none.len(), none.capacity()), (0, 0), "no names")
+}
+
+// By the seed and the multiplier of std's `FoldHasher`.
+#[test]
+fn the_default_builder_hashes_as_it_always_did(rt: HostRuntime) -> Result<(), Fail> {
+    let map = HashMap::<u64, u64>::new(rt.alloc());
+    let hash = map.hasher().hash_one(&7u64);
+    assert_same(hash, 0x4445_b387_2ebe_072e, "the hash of 7")
 }
 
 #[test]
