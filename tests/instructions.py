@@ -45,7 +45,7 @@ def count(row, size, program=PROGRAM):
         command = ["valgrind", "-q", "--tool=callgrind", *options, program, "count", keys, *call, str(size)]
         ran = subprocess.run(command, capture_output=True, text=True)
         if ran.returncode:
-            raise SystemExit(f"{row} {size}: {ran.stderr}")
+            raise ValueError(f"{row} {size}: {ran.stderr}")
         return own(pathlib.Path(folder, "out.2").read_text(), program) / int(ran.stdout.split()[0])
 
 
