@@ -31,9 +31,9 @@ pub fn group<K: Eq + Hash + Copy, V: Copy>(
 ) -> Result<HashMap<K, Vec<V>>, Refusal>
     ensures { IfOk result (λ groups. GroupsEach K.eq (λ values. values.items) items.now groups.pairs) }
 {
-    let mut groups = HashMap::<K, Vec<V>>::new(alloc);
+    let mut groups = HashMap::new(alloc);
     for (key, value) in items {
-        groups.entry(*key)?.or_default().push(*value)?;
+        groups.entry(*key)?.or_insert(Vec::new(alloc)).push(*value)?;
     }
     Ok(groups)
 }
