@@ -7,10 +7,10 @@
 - The folders of crates that users copy (COPIED) have a page and the licences, which are those at the top. A page has the line of
   crates.txt.
 - README's first example stands in half_examples, where it is proved with its clause, and halfmap, the program HALFMAP, answers its lines as it says.
-- The imports of USING and PROOFS stand in the crates, their snippets in callers, which are proved, or in examples, and the lemmas in
-  their modules.
-- CALLING has the clauses of its calls, the fields that these name and the list of all calls as they stand in the sources and specs
-  (calling.py). `tests/documentation.py --write` prints them there anew.
+- The imports of CALLING, USING and PROOFS stand in the crates, their snippets in callers, which are proved, or in examples, and the
+  lemmas in their modules. The imports of the caller that CALLING begins with are enough for it.
+- CALLING has its clauses, words and list of calls as they stand in the sources (calling.py). `tests/documentation.py --write`
+  prints them there anew.
 - docs/speed.svg shows the figures of SPEED, and docs/tail.svg those of TABLE, of which some are computed.
 - The examples in the documentation of the map and of the set run, with nothing proved. Those of a page, `//!`, stand before each
   that follows in the file, and those of the crate's page before all.
@@ -31,10 +31,11 @@ TOP = pathlib.Path(__file__).resolve().parent.parent
 STD = pathlib.Path(shutil.which("rt")).resolve().parent.parent / "rattle/std/src"
 HALFMAP = os.environ.get("HALFMAP") or TOP / "out/unproved/halfmap"
 CODE = re.compile(r"^```.*?^```|^    .*?$", re.M | re.S)
+FENCED = re.compile(r"^```(\w+)\n(.*?)^```$", re.M | re.S)
 SPAN = re.compile(r"`([^`]+)`")
 LINK = re.compile(r"\[[^\]]*\]\(((?!\w+://)[^)\s]+)\)")
 PATH = re.compile(r"[\w.-]+/[\w./-]*|[\w-]+\.(?:antt|c|edits|md|py|rt|sh|svg|txt)")
-IMPORT = re.compile(r"^ *(?:ghost )?use (Rattle[\w.]*)\.\{(.*)\};?\n", re.M)
+IMPORT = re.compile(r"^ *(?:ghost )?use ([\w.:]*\w)(?:\.|::)\{(.*)\};?\n", re.M)
 CALLERS = ("half_callers/src/*.rt", "half_uses/s*/*.*", "json_value/src/*.rt", "half_callers/proofs/*/*/*.antt")
 COPIED = "half_store halfbrown half_set half_serde half_uses json_value".split()
 USES = {  # The crates whose examples run, and what their tests import.
@@ -93,29 +94,25 @@ def packed(text):
     return re.sub(r",(?=[)\]}])", "", text)
 
 
-def imports(page):
-    code = "\n".join(texts("*/src/**/*.rt", "*/specs/*.antt", "*/proofs/**/*.antt"))
+def shown(page):
+    """The imports, the snippets and the lemmas of a page."""
+    sources = "\n".join(texts("*/src/**/*.rt", "*/specs/*.antt", "*/proofs/**/*.antt"))
     for module, names in IMPORT.findall(page):
-        yield from ((it, re.search(rf"use {module}\.\{{(.*, )?{re.escape(it)}[,}}]", code)) for it in names.split(", "))
-
-
-def using(page):
+        imported = "".join(re.findall(rf"use {module}(?:\.|::)(\{{.*\}})", sources))
+        yield from ((it, re.search(rf"(?:\{{|, ){re.escape(it)}[,}}]", imported)) for it in names.split(", "))
+    page = IMPORT.sub("", page)
+    snippets = [code for kind, code in FENCED.findall(page) if kind != "text"]
+    page = FENCED.sub("", page)
+    for indented in re.findall("(?:^    .*\n)+", page, re.M):
+        if not re.search(r"\S {3,}(?!//)\S", indented):  # A table has a second column.
+            snippets += [indented] if "{" in indented else indented.splitlines()
     documentation = re.findall("^ *//[/!](.*)", "\n".join(texts("half*/src/**/*.rt")), re.M)
     code = packed("\n".join(texts(*CALLERS) + documentation))
-    for snippet in re.findall("(?:^    .*\n)+", IMPORT.sub("", page), re.M):
-        if not re.search(r"\S {3,}(?!//)\S", snippet):  # A table has a second column.
-            yield from ((it, packed(it) in code) for it in ([snippet] if "{" in snippet else snippet.splitlines()))
+    yield from ((it, packed(it) in code) for it in snippets)
     for module, listed in re.findall(r"^    ([A-Z]\w+)\n((?:      .*\n)+)", page, re.M):
         defined = re.findall(r"^ *pub ([\w-]+) :", *texts(f"halfbrown/proofs/callers/{module}.antt"), re.M)
         names = ", ".join(line.strip().split("  ")[0] for line in listed.splitlines())
         yield from ((name, name in defined) for name in names.split(", "))
-
-
-def callers(page):
-    """The caller of CALLING and its proof, which stand in half_callers."""
-    code = packed("\n".join(texts(*CALLERS)))
-    for part in re.findall(r"^```(?:rust|antt)\n(.*?)^```", page, re.M | re.S):
-        yield part, packed(part[max(part.find("///"), 0):]) in code
 
 
 def copied():
@@ -152,6 +149,7 @@ def examples():
         shutil.copytree(TOP / "crates", crate.parent, ignore=shutil.ignore_patterns("proofs", "out"))
         (crate.parent.parent / "crates.txt").write_text((TOP / "crates.txt").read_text() + f"examples: {' '.join(USES)}\n")
         (crate / "src").mkdir(parents=True)
+        files["calling"] = FENCED.search(CALLING.read_text())[2]
         files["lib"] = "#![tactic(auto)]\n" + "".join(f"#[cfg(test)]\nmod {name};\n" for name in files)
         for name, tests in files.items():
             (crate / f"src/{name}.rt").write_text(tests)
@@ -168,16 +166,11 @@ git = subprocess.run(["git", "ls-files", "-co", "--exclude-standard"], cwd=TOP, 
 files = [it for it in git.stdout.splitlines() if (TOP / it).exists()]
 tree = "\n".join(f"/{it}" for it in files)
 claims = [(f"{it}: {what}", stands) for it in files if it.endswith(".md") for what, stands in named(TOP / it, tree)]
-claims += [*readme((TOP / "README.md").read_text()), *using(USING.read_text()), *using(PROOFS.read_text())]
-claims += [*calling.claims(CALLING.read_text()), *callers(CALLING.read_text()), *copied()]
-claims += [it for page in (CALLING, USING, PROOFS) for it in imports(page.read_text())]
-drawn = picture.picture(*picture.figures((TOP / "docs/SPEED.md").read_text()))
-claims.append(("the picture of SPEED", drawn == (TOP / "docs/speed.svg").read_text()))
-TABLE = (TOP / "docs/TABLE.md").read_text()
-claims += [(row, f"{row}\n" in TABLE) for load, _ in picture.LOADS.values() for row in picture.tail_rows(load)]
-drawn = "\n".join(picture.tail_picture(picture.measured_tails(TABLE)))
-claims.append(("the picture of TABLE", drawn == (TOP / "docs/tail.svg").read_text()))
-claims += examples()
+claims += [it for page in (CALLING, USING, PROOFS) for it in shown(page.read_text())]
+claims += [*readme((TOP / "README.md").read_text()), *calling.claims(CALLING.read_text()), *copied(), *examples()]
+claims += [(path.name, drawn == path.read_text()) for path, drawn in picture.pictures()]
+table = (TOP / "docs/TABLE.md").read_text()
+claims += [(row, f"{row}\n" in table) for load, _ in picture.LOADS.values() for row in picture.tail_rows(load)]
 failed = [what for what, stands in claims if not stands]
 print(*failed, f"{len(claims) - len(failed)} passed, {len(failed)} failed", sep="\n")
 sys.exit(bool(failed))
