@@ -1,14 +1,14 @@
 #!/usr/bin/env python3
 """What the documentation names is there, and what it shows is proved or run. The last line is "N passed, M failed".
 
-- In the pages (*.md) a link leads to a file, and to a heading where it names one; from the folder of a crate it does not lead out,
-  since users copy that. A path in backticks leads to a file or a folder, from anywhere in the tree: `map/find.rt` is in
-  crates/halfbrown/src. A name in backticks such as `counting::hash_one` is that of an item in a module, of a crate or of std.
-- The folders of crates that users copy (COPIED) have a page and the licences, which are those at the top. A page has the line of
-  crates.txt.
-- README's first example stands in half_examples, where it is proved with its clause, and halfmap, the program HALFMAP, answers its lines as it says.
-- The imports of CALLING, USING and PROOFS stand in the crates, their snippets in callers, which are proved, or in examples, and the
-  lemmas in their modules. The imports of the caller that CALLING begins with are enough for it.
+- In the pages (*.md) a link leads to a file, and to a heading if it names one, but not out of the folder of a crate, which users
+  copy. A path in backticks leads to a file or a folder, from anywhere in the tree: `map/find.rt` is in crates/halfbrown/src. A name
+  in backticks such as `counting::hash_one` is that of an item in a module, of a crate or of std.
+- The folders of crates that users copy (COPIED) have the licences of the top, and a page with the line of crates.txt.
+- README's first example stands in half_examples, where it is proved with its clause, and halfmap, the program HALFMAP, answers its
+  lines as it says.
+- The imports of CALLING, USING and PROOFS stand in the crates, their fenced code in callers, which are proved, other code there or
+  in examples, and the lemmas in their modules. The caller that CALLING begins with compiles with its imports.
 - CALLING has its clauses, words and list of calls as they stand in the sources (calling.py). `tests/documentation.py --write`
   prints them there anew.
 - docs/speed.svg shows the figures of SPEED, and docs/tail.svg those of TABLE, of which some are computed.
@@ -78,11 +78,12 @@ def named(page, tree):
 
 def readme(page):
     proved = re.search(r"^ghost use.*?^}\n", *texts("half_examples/src/first_example.rt"), re.M | re.S)[0]
-    shown = re.findall(r"^```rust\n(.*?)^```$", page, re.M | re.S)  # It is plain Rust, and its clause is told below.
+    shown = [code for kind, code in FENCED.findall(page) if kind == "rust"]  # It is plain, and its clause is told below.
     contract = re.compile(r"^ghost use .*\n\n?|^    (ensures .*)\n", re.M)
     told = all(f"`{clause}`" in page for clause in contract.findall(proved) if clause)
     yield "the first example", told and shown == [contract.sub("", proved).replace("\n{", " {")]
-    lines, last, answers = re.search(r"^    \$ printf '(.*)' \| make run \| tail -n (\d+)\n((?:    .*\n)+)", page, re.M).groups()
+    run = r"^    \$ printf '(.*)' \| make run \| tail -n (\d+)\n((?:    .*\n)+)"
+    lines, last, answers = re.search(run, page, re.M).groups()
     ran = subprocess.run(["env", HALFMAP], input=lines.replace("\\n", "\n"), capture_output=True, text=True)
     yield "the answers of halfmap", ran.stdout.splitlines()[-int(last) :] == answers.replace("    ", "").splitlines()
 
@@ -94,22 +95,25 @@ def packed(text):
     return re.sub(r",(?=[)\]}])", "", text)
 
 
-def shown(page):
-    """The imports, the snippets and the lemmas of a page."""
+def imports(page):
     sources = "\n".join(texts("*/src/**/*.rt", "*/specs/*.antt", "*/proofs/**/*.antt"))
     for module, names in IMPORT.findall(page):
         imported = "".join(re.findall(rf"use {module}(?:\.|::)(\{{.*\}})", sources))
         yield from ((it, re.search(rf"(?:\{{|, ){re.escape(it)}[,}}]", imported)) for it in names.split(", "))
+
+
+def snippets(page):
     page = IMPORT.sub("", page)
-    snippets = [code for kind, code in FENCED.findall(page) if kind != "text"]
-    page = FENCED.sub("", page)
-    for indented in re.findall("(?:^    .*\n)+", page, re.M):
-        if not re.search(r"\S {3,}(?!//)\S", indented):  # A table has a second column.
-            snippets += [indented] if "{" in indented else indented.splitlines()
-    documentation = re.findall("^ *//[/!](.*)", "\n".join(texts("half*/src/**/*.rt")), re.M)
-    code = packed("\n".join(texts(*CALLERS) + documentation))
-    yield from ((it, packed(it) in code) for it in snippets)
-    for module, listed in re.findall(r"^    ([A-Z]\w+)\n((?:      .*\n)+)", page, re.M):
+    examples = re.findall("^ *//[/!](.*)", "\n".join(texts("half*/src/**/*.rt")), re.M)
+    callers, either = (packed("\n".join(texts(*CALLERS) + more)) for more in ([], examples))
+    yield from ((code, packed(code) in callers) for kind, code in FENCED.findall(page) if kind != "text")
+    for code in re.findall("(?:^    .*\n)+", FENCED.sub("", page), re.M):
+        if not re.search(r"\S {3,}(?!//)\S", code):  # A table has a second column.
+            yield from ((it, packed(it) in either) for it in ([code] if "{" in code else code.splitlines()))
+
+
+def lemmas(page):
+    for module, listed in re.findall(r"^    ([A-Z]\w+)\n((?:      .*\n)+)", FENCED.sub("", page), re.M):
         defined = re.findall(r"^ *pub ([\w-]+) :", *texts(f"halfbrown/proofs/callers/{module}.antt"), re.M)
         names = ", ".join(line.strip().split("  ")[0] for line in listed.splitlines())
         yield from ((name, name in defined) for name in names.split(", "))
@@ -143,7 +147,8 @@ def examples():
     for name, uses in USES.items():
         sources = TOP / f"crates/{name}/src"
         before = tests_of(sources / "lib.rt", "", "")[1]
-        files |= {"_".join([name, *it.relative_to(sources).parts])[:-3]: tests_of(it, uses, before)[0] for it in sources.rglob("*.rt")}
+        for path in sources.rglob("*.rt"):
+            files["_".join([name, *path.relative_to(sources).parts])[:-3]] = tests_of(path, uses, before)[0]
     with tempfile.TemporaryDirectory() as folder:
         crate = pathlib.Path(folder, "crates/examples")
         shutil.copytree(TOP / "crates", crate.parent, ignore=shutil.ignore_patterns("proofs", "out"))
@@ -166,7 +171,8 @@ git = subprocess.run(["git", "ls-files", "-co", "--exclude-standard"], cwd=TOP, 
 files = [it for it in git.stdout.splitlines() if (TOP / it).exists()]
 tree = "\n".join(f"/{it}" for it in files)
 claims = [(f"{it}: {what}", stands) for it in files if it.endswith(".md") for what, stands in named(TOP / it, tree)]
-claims += [it for page in (CALLING, USING, PROOFS) for it in shown(page.read_text())]
+for shown in (imports, snippets, lemmas):
+    claims += [it for page in (CALLING, USING, PROOFS) for it in shown(page.read_text())]
 claims += [*readme((TOP / "README.md").read_text()), *calling.claims(CALLING.read_text()), *copied(), *examples()]
 claims += [(path.name, drawn == path.read_text()) for path, drawn in picture.pictures()]
 table = (TOP / "docs/TABLE.md").read_text()
