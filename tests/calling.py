@@ -1,7 +1,7 @@
 """What CALLING shows as it stands in the sources: the clauses of its calls, the words that these name, and a list of all calls.
 
-A word is a record, a data type or a name for what holds. It stands below the first clause that names it, or in the list of words
-if another word names it.
+A word is a record, a data type or a name for what holds. It stands below the first clause that names it, or in the list of
+words if another word names it.
 """
 
 import pathlib
@@ -12,8 +12,8 @@ CRATE = pathlib.Path(__file__).resolve().parent.parent / "crates/halfbrown"
 # A clause or a field of such a name is not printed, and no clause that is starred.
 LEFT_OUT = re.compile(r"(?:(?:requires|ensures) ?)?(?:\*|(?:cost|keeps|runs|same_map|small|valid|values_run)\b)")
 # Such a word is not printed: a line by hand says in short what it says, or no caller has to know it.
-NOT_OPENED = """ArePairClones HashesAlike InsertsAll InsertsAt IsDefaultBuilder ModifiesEntry RefusedCollectIter RefusedExtendIter
-    ShiftRemoves State""".split()
+NOT_OPENED = """ArePairClones HashesAlike InsertsAll InsertsAt IsDefaultBuilder ModifiesEntry RefusedCollectIter
+    RefusedExtendIter ShiftRemoves State""".split()
 WORD = re.compile(r"^( *)(?:pub record|pub data|abbrev pub) ([A-Z]\w*)(.*)\n((?:\1 +\S.*\n|\1\2 .*\n)*)", re.M)
 CALL = re.compile(r"^fn ([\w:]+).*\n(?:(?!fn |```).*\n)*", re.M)
 LIST = re.compile(r"(^## (Words|All calls)\n(?:[^`]|`(?!``))*```text\n)([^`]*)", re.M)

@@ -1,19 +1,19 @@
 #!/usr/bin/env python3
 """What the documentation names is there, and what it shows is proved or run. The last line is "N passed, M failed".
 
-- In the pages (*.md) a link leads to a file, and to a heading if it names one, but not out of the folder of a crate, which users
-  copy. A path in backticks leads to a file or a folder, from anywhere in the tree: `map/find.rt` is in crates/halfbrown/src. A name
-  in backticks such as `counting::hash_one` is that of an item in a module, of a crate or of std.
+- In the pages (*.md) a link leads to a file, and to a heading if it names one, but not out of the folder of a crate, since users
+  copy that. A path in backticks leads to a file or a folder, from anywhere in the tree: `map/find.rt` is in
+  crates/halfbrown/src. A name in backticks such as `counting::hash_one` is that of an item in a module, of a crate or of std.
 - The folders of crates that users copy (COPIED) have the licences of the top, and a page with the line of crates.txt.
-- README's first example stands in half_examples, where it is proved with its clause, and halfmap, the program HALFMAP, answers its
-  lines as it says.
-- The imports of CALLING, USING and PROOFS stand in the crates, their fenced code in callers, which are proved, other code there or
-  in examples, and the lemmas in their modules. The caller that CALLING begins with compiles with its imports.
+- README's first example stands in half_examples, where it is proved with its clause, and halfmap, the program HALFMAP, answers
+  its lines as it says.
+- The imports of CALLING, USING and PROOFS stand in the crates, their fenced code in callers, which are proved, other code there
+  or in examples, and the lemmas in their modules. The caller that CALLING begins with compiles with its imports.
 - CALLING has its clauses, words and list of calls as they stand in the sources (calling.py). `tests/documentation.py --write`
   prints them there anew.
 - docs/speed.svg shows the figures of SPEED, and docs/tail.svg those of TABLE, of which some are computed.
-- The examples in the documentation of the map and of the set run, with nothing proved. Those of a page, `//!`, stand before each
-  that follows in the file, and those of the crate's page before all.
+- The examples in the documentation of the map and of the set run, with nothing proved. Those of a page, `//!`, stand before
+  each that follows in the file, and those of the crate's page before all.
 """
 
 import os
