@@ -1,9 +1,10 @@
 """What CALLING shows as it stands in the sources: the clauses of its calls, the words that these name, and a list of all calls.
 
-A word is a record, a data type or a name for what holds. It stands below the first clause that names it, or in the list of
-words if another word names it.
+A word is a record, a data type or a name for what holds. It stands below the first clause that names it, or below the word that
+alone does; if both do, or several words, it stands in the list of words.
 """
 
+import collections
 import pathlib
 import re
 import textwrap
@@ -62,33 +63,42 @@ class Page:
     def __init__(self, text):
         self.words = words()
         self.clauses = {it[1]: [*quoted(it[1])] for it in CALL.finditer(text)}
-        self.below = {name for clauses in self.clauses.values() for name in self.named(clauses[1:])}
-        self.listed, found = set(), self.below
+        found = {name for clauses in self.clauses.values() for name in self.named(clauses[1:])}
+        namers = collections.Counter(found)  # The clauses count as one.
         while found:
-            found = {other for name in found for other in self.named(self.words[name]) if other != name} - self.listed
-            self.listed |= found
-        self.below -= self.listed
+            leads = [{*self.named(self.words[name])} - {name} for name in found]
+            found = set().union(*leads) - namers.keys()
+            namers.update(name for names in leads for name in names)
+        self.listed = sorted(name for name in namers if namers[name] > 1)
+        self.left = namers.keys() - self.listed
 
     def named(self, lines):
         return [it for it in re.findall(r"\w+", " ".join(lines)) if it in self.words]
 
     def word(self, name, indent=""):
+        """A word, and those that it alone names."""
         head, *fields = self.words[name]
-        return wrapped(head, indent) + "".join(wrapped(it, indent + "  ") for it in fields)
+        text = wrapped(head, indent) + "".join(wrapped(it, indent + "  ") for it in fields)
+        return text + self.below(self.words[name], indent)
+
+    def below(self, lines, indent):
+        """The words that stand below lines which name them."""
+        text = ""
+        for name in self.named(lines):
+            if name in self.left:
+                self.left.remove(name)
+                text += self.word(name, indent)
+        return text
 
     def call(self, found):
-        """A call of the page, quoted anew above the lines by hand. A word goes below the first clause that names it."""
+        """A call of the page, quoted anew above the lines by hand."""
         head, *clauses = self.clauses[found[1]]
-        text = wrapped(head)
-        for clause in clauses:
-            shown = self.below.intersection(self.named([clause]))
-            self.below -= shown
-            text += wrapped(clause, "  ") + "".join(self.word(it, "    ") for it in sorted(shown))
+        text = wrapped(head) + "".join(wrapped(it, "  ") + self.below([it], "    ") for it in clauses)
         return text + "".join(re.findall(r"^  \|.*\n", found[0], re.M))
 
     def list(self, found):
         """A list of the page, made anew."""
-        return found[1] + "".join(map(self.word, sorted(self.listed)) if found[2] == "Words" else all_calls())
+        return found[1] + "".join(map(self.word, self.listed) if found[2] == "Words" else all_calls())
 
 
 def all_calls():
