@@ -1,7 +1,7 @@
 """What CALLING shows as it stands in the sources: the clauses of its calls, the words that these name, and a list of all calls.
 
-A word is a record, a data type or a name for what holds. It stands below the first clause that names it, or below the word that
-alone does; if both do, or several words, it stands in the list of words.
+A word is a record, a data type or a name for what holds. If only clauses name it, or only one other word, it stands below the
+first of these, and otherwise in the list of words.
 """
 
 import collections
@@ -10,7 +10,7 @@ import re
 import textwrap
 
 CRATE = pathlib.Path(__file__).resolve().parent.parent / "crates/halfbrown"
-# A clause or a field of such a name is not printed, and no clause that is starred.
+# No clause or field of such a name is printed, and no starred clause.
 LEFT_OUT = re.compile(r"(?:(?:requires|ensures) ?)?(?:\*|(?:cost|keeps|runs|same_map|small|valid|values_run)\b)")
 # Such a word is not printed: a line by hand says in short what it says, or no caller has to know it.
 NOT_OPENED = """ArePairClones HashesAlike InsertsAll InsertsAt IsDefaultBuilder ModifiesEntry RefusedCollectIter
@@ -70,19 +70,19 @@ class Page:
             found = set().union(*leads) - namers.keys()
             namers.update(name for names in leads for name in names)
         self.listed = sorted(name for name in namers if namers[name] > 1)
-        self.left = namers.keys() - self.listed
+        self.left = namers.keys() - self.listed  # Each is taken out as it is printed.
 
     def named(self, lines):
         return [it for it in re.findall(r"\w+", " ".join(lines)) if it in self.words]
 
     def word(self, name, indent=""):
-        """A word, and those that it alone names."""
+        """A word, and below it those that only it names."""
         head, *fields = self.words[name]
         text = wrapped(head, indent) + "".join(wrapped(it, indent + "  ") for it in fields)
         return text + self.below(self.words[name], indent)
 
     def below(self, lines, indent):
-        """The words that stand below lines which name them."""
+        """The words that are left and that these lines name."""
         text = ""
         for name in self.named(lines):
             if name in self.left:
