@@ -1,9 +1,9 @@
 #!/usr/bin/env python3
 """What the documentation names is there, and what it shows is proved or run. The last line is "N passed, M failed".
 
-- In the pages (*.md) a link leads to a file, and to a heading if it names one, but not out of the folder of a crate, which users
-  copy. A path in backticks leads to a file or a folder, from anywhere in the tree: `map/find.rt` is in crates/halfbrown/src.
-  A name in backticks such as `counting::hash_one` is that of an item in a module, of a crate or of std.
+- In the pages (*.md) a link leads to a file, and to a heading if it names one, but not out of the folder of a crate, which
+  users copy. A path in backticks leads to a file or a folder, from anywhere in the tree: `map/find.rt` is in
+  crates/halfbrown/src. A name in backticks such as `counting::hash_one` is that of an item in a module, of a crate or of std.
 - The folders of crates that users copy (COPIED) have the licences of the top, and a page with the line of crates.txt.
 - README's first example stands in half_examples, where it is proved with its clause, and halfmap, the program HALFMAP, answers
   its lines as it says.
