@@ -1,19 +1,19 @@
 #!/usr/bin/env python3
 """What the documentation names is there, and what it shows is proved or run. The last line is "N passed, M failed".
 
-- In the pages (*.md) a link leads to a file, and to a heading where it names one; from the folder of a crate it does not lead out,
-  since users copy that. A path in backticks leads to a file or a folder, from anywhere in the tree: `map/find.rt` is in
+- In the pages (*.md) a link leads to a file, and to a heading if it names one, but not out of the folder of a crate, which
+  users copy. A path in backticks leads to a file or a folder, from anywhere in the tree: `map/find.rt` is in
   crates/halfbrown/src. A name in backticks such as `counting::hash_one` is that of an item in a module, of a crate or of std.
-- The folders of crates that users copy (COPIED) have a page and the licences, which are those at the top. A page has the line of
-  crates.txt.
-- README's first example stands in half_examples, where it is proved with its clause, and halfmap, the program HALFMAP, answers its lines as it says.
-- The imports of USING and PROOFS stand in the crates, their snippets in callers, which are proved, or in examples, and the lemmas in
-  their modules.
-- CALLING has the clauses of its calls, the fields that these name and the list of all calls as they stand in the sources and specs
-  (calling.py). `tests/documentation.py --write` prints them there anew.
+- The folders of crates that users copy (COPIED) have the licences of the top, and a page with the line of crates.txt.
+- README's first example stands in half_examples, where it is proved with its clause, and halfmap, the program HALFMAP, answers
+  its lines as it says.
+- The imports of CALLING, USING and PROOFS stand in the crates, their fenced code in callers, which are proved, other code there
+  or in examples, and the lemmas in their modules. The caller that CALLING begins with compiles with its imports.
+- CALLING has its clauses, words and list of calls as they stand in the sources (calling.py). `tests/documentation.py --write`
+  prints them there anew.
 - docs/speed.svg shows the figures of SPEED, and docs/tail.svg those of TABLE, of which some are computed.
-- The examples in the documentation of the map and of the set run, with nothing proved. Those of a page, `//!`, stand before each
-  that follows in the file, and those of the crate's page before all.
+- The examples in the documentation of the map and of the set run, with nothing proved. Those of a page, `//!`, stand before
+  each that follows in the file, and those of the crate's page before all.
 """
 
 import os
@@ -31,10 +31,11 @@ TOP = pathlib.Path(__file__).resolve().parent.parent
 STD = pathlib.Path(shutil.which("rt")).resolve().parent.parent / "rattle/std/src"
 HALFMAP = os.environ.get("HALFMAP") or TOP / "out/unproved/halfmap"
 CODE = re.compile(r"^```.*?^```|^    .*?$", re.M | re.S)
+FENCED = re.compile(r"^```(\w+)\n(.*?)^```$", re.M | re.S)
 SPAN = re.compile(r"`([^`]+)`")
 LINK = re.compile(r"\[[^\]]*\]\(((?!\w+://)[^)\s]+)\)")
 PATH = re.compile(r"[\w.-]+/[\w./-]*|[\w-]+\.(?:antt|c|edits|md|py|rt|sh|svg|txt)")
-IMPORT = re.compile(r"^ *(?:ghost )?use (Rattle[\w.]*)\.\{(.*)\};?\n", re.M)
+IMPORT = re.compile(r"^ *(?:ghost )?use ([\w.:]*\w)(?:\.|::)\{(.*)\};?\n", re.M)
 CALLERS = ("half_callers/src/*.rt", "half_uses/s*/*.*", "json_value/src/*.rt", "half_callers/proofs/*/*/*.antt")
 COPIED = "half_store halfbrown half_set half_serde half_uses json_value".split()
 USES = {  # The crates whose examples run, and what their tests import.
@@ -77,11 +78,12 @@ def named(page, tree):
 
 def readme(page):
     proved = re.search(r"^ghost use.*?^}\n", *texts("half_examples/src/first_example.rt"), re.M | re.S)[0]
-    shown = re.findall(r"^```rust\n(.*?)^```$", page, re.M | re.S)  # It is plain Rust, and its clause is told below.
+    shown = [code for kind, code in FENCED.findall(page) if kind == "rust"]  # It is plain, and its clause is told below.
     contract = re.compile(r"^ghost use .*\n\n?|^    (ensures .*)\n", re.M)
     told = all(f"`{clause}`" in page for clause in contract.findall(proved) if clause)
     yield "the first example", told and shown == [contract.sub("", proved).replace("\n{", " {")]
-    lines, last, answers = re.search(r"^    \$ printf '(.*)' \| make run \| tail -n (\d+)\n((?:    .*\n)+)", page, re.M).groups()
+    run = r"^    \$ printf '(.*)' \| make run \| tail -n (\d+)\n((?:    .*\n)+)"
+    lines, last, answers = re.search(run, page, re.M).groups()
     ran = subprocess.run(["env", HALFMAP], input=lines.replace("\\n", "\n"), capture_output=True, text=True)
     yield "the answers of halfmap", ran.stdout.splitlines()[-int(last) :] == answers.replace("    ", "").splitlines()
 
@@ -94,28 +96,27 @@ def packed(text):
 
 
 def imports(page):
-    code = "\n".join(texts("*/src/**/*.rt", "*/specs/*.antt", "*/proofs/**/*.antt"))
+    sources = "\n".join(texts("*/src/**/*.rt", "*/specs/*.antt", "*/proofs/**/*.antt"))
     for module, names in IMPORT.findall(page):
-        yield from ((it, re.search(rf"use {module}\.\{{(.*, )?{re.escape(it)}[,}}]", code)) for it in names.split(", "))
+        imported = "".join(re.findall(rf"use {module}(?:\.|::)(\{{.*\}})", sources))
+        yield from ((it, re.search(rf"(?:\{{|, ){re.escape(it)}[,}}]", imported)) for it in names.split(", "))
 
 
-def using(page):
-    documentation = re.findall("^ *//[/!](.*)", "\n".join(texts("half*/src/**/*.rt")), re.M)
-    code = packed("\n".join(texts(*CALLERS) + documentation))
-    for snippet in re.findall("(?:^    .*\n)+", IMPORT.sub("", page), re.M):
-        if not re.search(r"\S {3,}(?!//)\S", snippet):  # A table has a second column.
-            yield from ((it, packed(it) in code) for it in ([snippet] if "{" in snippet else snippet.splitlines()))
-    for module, listed in re.findall(r"^    ([A-Z]\w+)\n((?:      .*\n)+)", page, re.M):
+def snippets(page):
+    page = IMPORT.sub("", page)
+    examples = re.findall("^ *//[/!](.*)", "\n".join(texts("half*/src/**/*.rt")), re.M)
+    callers, either = (packed("\n".join(texts(*CALLERS) + more)) for more in ([], examples))
+    yield from ((code, packed(code) in callers) for kind, code in FENCED.findall(page) if kind != "text")
+    for code in re.findall("(?:^    .*\n)+", FENCED.sub("", page), re.M):
+        if not re.search(r"\S {3,}(?!//)\S", code):  # A table has a second column.
+            yield from ((it, packed(it) in either) for it in ([code] if "{" in code else code.splitlines()))
+
+
+def lemmas(page):
+    for module, listed in re.findall(r"^    ([A-Z]\w+)\n((?:      .*\n)+)", FENCED.sub("", page), re.M):
         defined = re.findall(r"^ *pub ([\w-]+) :", *texts(f"halfbrown/proofs/callers/{module}.antt"), re.M)
         names = ", ".join(line.strip().split("  ")[0] for line in listed.splitlines())
         yield from ((name, name in defined) for name in names.split(", "))
-
-
-def callers(page):
-    """The caller of CALLING and its proof, which stand in half_callers."""
-    code = packed("\n".join(texts(*CALLERS)))
-    for part in re.findall(r"^```(?:rust|antt)\n(.*?)^```", page, re.M | re.S):
-        yield part, packed(part[max(part.find("///"), 0):]) in code
 
 
 def copied():
@@ -146,12 +147,14 @@ def examples():
     for name, uses in USES.items():
         sources = TOP / f"crates/{name}/src"
         before = tests_of(sources / "lib.rt", "", "")[1]
-        files |= {"_".join([name, *it.relative_to(sources).parts])[:-3]: tests_of(it, uses, before)[0] for it in sources.rglob("*.rt")}
+        for path in sources.rglob("*.rt"):
+            files["_".join([name, *path.relative_to(sources).parts])[:-3]] = tests_of(path, uses, before)[0]
     with tempfile.TemporaryDirectory() as folder:
         crate = pathlib.Path(folder, "crates/examples")
         shutil.copytree(TOP / "crates", crate.parent, ignore=shutil.ignore_patterns("proofs", "out"))
         (crate.parent.parent / "crates.txt").write_text((TOP / "crates.txt").read_text() + f"examples: {' '.join(USES)}\n")
         (crate / "src").mkdir(parents=True)
+        files["calling"] = FENCED.search(CALLING.read_text())[2]
         files["lib"] = "#![tactic(auto)]\n" + "".join(f"#[cfg(test)]\nmod {name};\n" for name in files)
         for name, tests in files.items():
             (crate / f"src/{name}.rt").write_text(tests)
@@ -168,16 +171,12 @@ git = subprocess.run(["git", "ls-files", "-co", "--exclude-standard"], cwd=TOP, 
 files = [it for it in git.stdout.splitlines() if (TOP / it).exists()]
 tree = "\n".join(f"/{it}" for it in files)
 claims = [(f"{it}: {what}", stands) for it in files if it.endswith(".md") for what, stands in named(TOP / it, tree)]
-claims += [*readme((TOP / "README.md").read_text()), *using(USING.read_text()), *using(PROOFS.read_text())]
-claims += [*calling.claims(CALLING.read_text()), *callers(CALLING.read_text()), *copied()]
-claims += [it for page in (CALLING, USING, PROOFS) for it in imports(page.read_text())]
-drawn = picture.picture(*picture.figures((TOP / "docs/SPEED.md").read_text()))
-claims.append(("the picture of SPEED", drawn == (TOP / "docs/speed.svg").read_text()))
-TABLE = (TOP / "docs/TABLE.md").read_text()
-claims += [(row, f"{row}\n" in TABLE) for load, _ in picture.LOADS.values() for row in picture.tail_rows(load)]
-drawn = "\n".join(picture.tail_picture(picture.measured_tails(TABLE)))
-claims.append(("the picture of TABLE", drawn == (TOP / "docs/tail.svg").read_text()))
-claims += examples()
+for shown in (imports, snippets, lemmas):
+    claims += [it for page in (CALLING, USING, PROOFS) for it in shown(page.read_text())]
+claims += [*readme((TOP / "README.md").read_text()), *calling.claims(CALLING.read_text()), *copied(), *examples()]
+claims += [(path.name, drawn == path.read_text()) for path, drawn in picture.pictures()]
+table = (TOP / "docs/TABLE.md").read_text()
+claims += [(row, f"{row}\n" in table) for load, _ in picture.LOADS.values() for row in picture.tail_rows(load)]
 failed = [what for what, stands in claims if not stands]
 print(*failed, f"{len(claims) - len(failed)} passed, {len(failed)} failed", sep="\n")
 sys.exit(bool(failed))

@@ -146,6 +146,12 @@ def write(times, memory):
     (DOCS / "speed.svg").write_text(picture(times, memory))
 
 
+def pictures():
+    """Each picture's file, and what it has by the figures of the pages."""
+    yield DOCS / "speed.svg", picture(*figures((DOCS / "SPEED.md").read_text()))
+    yield DOCS / "tail.svg", "\n".join(tail_picture(measured_tails((DOCS / "TABLE.md").read_text())))
+
+
 if __name__ == "__main__":
-    write(*figures((DOCS / "SPEED.md").read_text()))
-    (DOCS / "tail.svg").write_text("\n".join(tail_picture(measured_tails((DOCS / "TABLE.md").read_text()))))
+    for path, drawn in pictures():
+        path.write_text(drawn)
