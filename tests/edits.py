@@ -29,9 +29,9 @@ import time
 from concurrent.futures import FIRST_COMPLETED, ThreadPoolExecutor, wait
 
 import planted
+import tools
 
-TOP = planted.TOP
-EDITS = TOP / "tests/edits"
+EDITS = tools.TESTS / "edits"
 # What memory a check takes at most, and how many edits are tried in one.
 MEMORY = 2_000_000_000
 BATCH = 24
@@ -234,8 +234,8 @@ def in_batches(edits, crate, names):
 
 def prove(crate):
     """Proves a crate where out/ lacks that, builds what the crates above it read, and returns the names of its functions."""
-    folder, began = TOP / "crates" / crate, time.monotonic()
-    if subprocess.run([planted.TESTS / "prove.sh", crate, "check" if (folder / "src/main.rt").is_file() else "lib"]).returncode:
+    folder, began = tools.TOP / "crates" / crate, time.monotonic()
+    if subprocess.run([tools.TESTS / "prove.sh", crate, "check" if (folder / "src/main.rt").is_file() else "lib"]).returncode:
         sys.exit("0 passed, 1 failed")
     print(f"{crate}: proved, {time.monotonic() - began:.0f} s", flush=True)
     # This takes what is proved, and names each function.
@@ -251,18 +251,18 @@ def main(words):
     if not edits:
         sys.exit("\n".join([*map(str, known), f"none of these edits has {' or '.join(words)} in its path or name"]))
     refused = [it for it in edits if not it.found_by]
-    names = {crate: prove(crate) for crate in planted.crates_of() if any(it.crate == crate for it in refused)}
+    names = {crate: prove(crate) for crate in tools.crates_of() if any(it.crate == crate for it in refused)}
     batches = planted.in_programs([it for it in edits if it.found_by])
     for crate in names:
-        batches += in_batches([it for it in refused if it.crate == crate], TOP / "crates" / crate, names[crate])
+        batches += in_batches([it for it in refused if it.crate == crate], tools.TOP / "crates" / crate, names[crate])
     memory = 1024 * int(re.search(r"MemAvailable:\s+(\d+)", pathlib.Path("/proc/meminfo").read_text())[1])
     lanes = max(1, min(int(os.environ.get("JOBS") or len(os.sched_getaffinity(0))), memory // MEMORY, len(batches)))
     began, passed, ended, copies = time.monotonic(), 0, 0, queue.SimpleQueue()
     # Below out/, since links do not lead to another disk.
-    (TOP / "out").mkdir(exist_ok=True)
-    with tempfile.TemporaryDirectory(prefix="edits.", dir=TOP / "out") as folder, ThreadPoolExecutor(lanes) as pool:
+    (tools.TOP / "out").mkdir(exist_ok=True)
+    with tempfile.TemporaryDirectory(prefix="edits.", dir=tools.TOP / "out") as folder, ThreadPoolExecutor(lanes) as pool:
         for number in range(lanes):
-            copies.put(planted.copy_sources(pathlib.Path(folder, str(number)), planted.crates_of(*names), proved=True))
+            copies.put(tools.copy_sources(pathlib.Path(folder, str(number)), tools.crates_of(*names), proved=True))
         tried = {pool.submit(try_in, copies, it, names): it for it in batches}
         while tried:
             for done in wait(tried, return_when=FIRST_COMPLETED)[0]:
