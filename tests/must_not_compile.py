@@ -12,10 +12,10 @@ import pathlib
 import re
 import shutil
 import subprocess
-import sys
 import tempfile
 
-TOP = pathlib.Path(__file__).resolve().parent.parent
+import tools
+
 CASE = re.compile(r"^(\w+): (.*)\n((?:    .*\n)+)", re.M)
 ERROR = re.compile(r"^src/(\w+)\.rt:\d+:\d+: (error\[[^\]]*\])", re.M)
 COMPILES = "compiles"
@@ -25,14 +25,6 @@ pub fn main(rt: &HostRuntime) {{
     let mut map = SizedHashMap::<u64, u64, DefaultHashBuilder, 5>::new(rt.alloc());
 {}}}
 """
-
-
-def copy_libraries(folder):
-    """Copies the sources of the libraries, and names the crate that misuses them."""
-    (folder / "crates.txt").write_text("half_store: std_collections\nhalfbrown: half_store\nmisuse: halfbrown\n")
-    for name in ("half_store", "halfbrown"):
-        for part in ("src", "specs"):
-            shutil.copytree(TOP / "crates" / name / part, folder / "crates" / name / part)
 
 
 def compile_crate(bodies, crate):
@@ -63,20 +55,12 @@ def judge(bodies, crate):
     return found, said
 
 
-def main():
-    cases = CASE.findall((TOP / "tests/must_not_compile.txt").read_text())
-    with tempfile.TemporaryDirectory() as folder:
-        folder = pathlib.Path(folder)
-        copy_libraries(folder)
-        found, said = judge({name: body for name, _, body in cases}, folder / "crates/misuse")
-    failed = [(name, wanted) for name, wanted, _ in cases if found.get(name) != wanted]
-    for name, wanted in failed:
-        print(f"{name}: wanted {wanted}, found {found.get(name)}")
-    if failed:
-        print(said[-2000:])
-    print(f"{len(cases) - len(failed)} passed, {len(failed)} failed")
-    return bool(failed) or not cases
-
-
-if __name__ == "__main__":
-    sys.exit(main())
+cases = CASE.findall((tools.TESTS / "must_not_compile.txt").read_text())
+with tempfile.TemporaryDirectory() as folder:
+    folder = tools.copy_sources(pathlib.Path(folder), tools.crates_of("halfbrown"))
+    with open(folder / "crates.txt", "a") as lines:
+        lines.write("misuse: halfbrown\n")
+    found, said = judge({name: body for name, _, body in cases}, folder / "crates/misuse")
+told = [None if found.get(it) == wanted else f"{it}: wanted {wanted}, found {found.get(it)}" for it, wanted, _ in cases]
+print(said[-2000:] if any(told) else "", end="")
+tools.end(told)
