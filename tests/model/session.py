@@ -1,10 +1,10 @@
 """A script on the model, line by line."""
 
-from model.basics import ALL, GREATEST, NONE, BadLine, Pair, Refused, Work
+from model.basics import ALL, GREATEST, NONE, Pair, Refused, Work
 from model.lines import BYTES, CALLS, CALLS_ON_A, WITH_TEXT, keys_in, read_call, read_first
 from model.map import Map
 
-# What the model says of a line that is none, at which the program ends.
+# What the model says of a line that it cannot read, at which the program ends.
 NO_LINE = "no line"
 
 
@@ -26,7 +26,7 @@ class Session:
     def answer(self, line):
         try:
             return self.answer_call(line) if self.a else self.answer_first(line)
-        except BadLine:
+        except (LookupError, ValueError):
             return NO_LINE
 
     def answer_first(self, line):
