@@ -159,7 +159,7 @@ def main(words):
     parts, faults = zip(*map(read_script, paths))
     with ThreadPoolExecutor(os.cpu_count()) as pool:
         told = sum(pool.map(functools.partial(judge, tools.program("witness")), sum(parts, [])), [])
-    tools.end(told + sum(faults, []))
+    tools.end([it and it[:1000] for it in told + sum(faults, [])])
 
 
 if __name__ == "__main__":

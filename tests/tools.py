@@ -43,6 +43,6 @@ def copy_sources(folder, crates, proved=False):
 
 def end(told):
     """Ends a test whose checks told what is wrong, or None: prints that, and as the last line "N passed, M failed"."""
-    faults = [str(it)[:1000] for it in told if it]
+    faults = [it for it in told if it]
     print(*faults, f"{len(told) - len(faults)} passed, {len(faults)} failed", sep="\n")
     sys.exit(bool(faults) or not told)

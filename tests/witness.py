@@ -47,13 +47,16 @@ def shortest(program, lines, refuse):
     return lines
 
 
-def report(program, lines, refuse):
-    """Prints a script, and both answers where they differ."""
-    both = play(program, lines, refuse), answers(lines, refuse)
+def report(program, index, script):
+    """A script that differs, made short, and both answers where they do."""
+    of_each = "" if script.refuse == ALL else f", request {script.refuse[0]} refused"
+    lines, told = shortest(program, script.lines, script.refuse), [f"script {index}{of_each}, made short:"]
+    both = play(program, lines, script.refuse), answers(lines, script.refuse)
     for line, found, wanted in itertools.zip_longest(lines, *both, fillvalue="nothing"):
-        print(f"    {line}")
+        told.append(f"    {line}")
         if not agrees(found, wanted):
-            print(f"        the program: {found}\n        the model:   {wanted}")
+            told.append(f"        the program: {found}\n        the model:   {wanted}")
+    return "\n".join(told)
 
 
 def is_other(program, seed, index):
@@ -65,15 +68,12 @@ def is_other(program, seed, index):
 def main(count=SCRIPTS, seed=1):
     began, program = time.monotonic(), tools.program("witness")
     with ProcessPoolExecutor(os.cpu_count()) as pool:
-        failed = [*pool.map(functools.partial(is_other, program, seed), range(int(count)))]
-    print(f"{count} scripts in {time.monotonic() - began:.1f} s")
-    told = [f"script {index} differs" if it else None for index, it in enumerate(failed)]
+        differing = [*pool.map(functools.partial(is_other, program, seed), range(int(count)))]
+    print(f"{count} scripts of seed {seed} in {time.monotonic() - began:.1f} s")
+    told = [f"script {index} differs" if it else None for index, it in enumerate(differing)]
     # The first ones are long.
-    for index in [index for index, it in enumerate(failed) if it][-MOST_SHOWN:]:
-        script = make_script(seed, index)
-        of_each = "" if script.refuse == ALL else f", request {script.refuse[0]} refused"
-        print(f"script {index} of seed {seed}{of_each}, made short:")
-        report(program, shortest(program, script.lines, script.refuse), script.refuse)
+    for index in [index for index, it in enumerate(told) if it][-MOST_SHOWN:]:
+        told[index] = report(program, index, make_script(seed, index))
     tools.end(told)
 
 
