@@ -4,7 +4,7 @@
 #   tests/gate.sh            proves what users run, and builds the rest unproved beside that
 #   tests/gate.sh proved     takes what `rt ci` has proved and built
 #   tests/gate.sh covered    builds all unproved, and says which blocks no test enters
-#   tests/gate.sh all        proves all from nothing, counts the instructions of each call, does the last two, and tries every edit
+#   tests/gate.sh all        proves all from nothing, counts the instructions of calls, does the last two, and tries every edit
 #
 # As many parts run at once as there are processors, at most four. Each has its line when it ends, so that their order differs.
 set -uo pipefail
@@ -35,7 +35,7 @@ part() {
 # Of all that is long each line is shown as it comes.
 show() { if [ "$mode" = all ]; then sed -u "s/^/$1: /"; else cat >/dev/null; fi; }
 
-# start NAME: runs a part. The others give way to the proofs, which are long where something has changed, and to the longest build.
+# start NAME: runs a part. Others give way to the proofs, which are long where something has changed, and to the longest build.
 start() {
     began[$1]=$SECONDS
     (
@@ -123,7 +123,8 @@ try_tests() {
 # Tries every edit in a copy of the tree as it is now, since `rt ci` leaves processors idle where crates wait for one another.
 # They give way to it.
 edits() {
-    mkdir "$folder/tree" && git ls-files -z | xargs -0 cp --parents -t "$folder/tree" && nice -n 10 "$folder/tree/tests/edits.py"
+    local tree=$folder/tree
+    mkdir "$tree" && git ls-files -z | xargs -0 cp --parents -t "$tree" && nice -n 10 "$tree/tests/edits.py"
 }
 
 rt version

@@ -1,13 +1,13 @@
 """Tries edits that no contract can refuse, in copies of the sources in which nothing is proved.
 
-A program takes half a minute to compile. So the edits with `found by: the random run N, PART of CALL` are planted in one program
-for each N. Each has to show in this part of the answers of this call: the `answer` itself, the `work`, the `state` or the `drops`.
-One that does not is tried alone. Whoever writes an edit sees that no other of its program shows there. How a program ends, what it
-leaks, its requests for memory and its calls of closures do not count.
+A program takes half a minute to compile. So the edits with `found by: the random run N, PART of CALL` are planted in one
+program for each N. Each has to show in this part of the answers of this call: the `answer` itself, the `work`, the `state` or
+the `drops`. One that does not is tried alone. Whoever writes an edit sees that no other of its program shows there. How a
+program ends, what it leaks, its requests for memory and its calls of closures do not count.
 
 The edits with `found by: coverage.py FUNCTION` are planted in one copy too. In each such function more blocks are entered by no
-test than the list has. Those with `found by: instructions.py ROW SIZE` make their row longer, and those with `found by: sources.py`
-show in their file. A script finds an edit by a line of its own, and `the tests of half_tests` by a test that fails.
+test than the list has. Those with `found by: instructions.py ROW SIZE` make their row longer, and those of sources.py show in
+their file. A script finds an edit by a line of its own, and `the tests of half_tests` by a test that fails.
 """
 
 import functools
@@ -24,8 +24,8 @@ from model.lines import name_of
 from random_scripts import FIRST_LINES, LONG, make_script
 from scripts import agrees, play
 
-# The scripts of the random run that have to find an edit: their number, and their one kind of values and one limit, as each takes
-# seconds to compile.
+# The scripts of the random run that have to find an edit: their number, and their one kind of values and one limit, as each
+# takes seconds to compile.
 SCRIPTS, FIRST_LINE = 60, ("map", 5)
 PARTS = ("answer", "work", "state", "drops")
 # What finds edits that are planted in one copy, and what of it shows an edit.
@@ -146,7 +146,7 @@ def in_programs(edits):
 
 
 def attempt(edits):
-    """Whether each edit of a program is found by what it names, and what that shows; None for one that has to be tried alone."""
+    """Whether each edit of a program is found by what it names, and what shows it; None for one that has to be tried alone."""
     finder = next((finder for start, finder in FINDERS.items() if edits[0].found_by.startswith(start)), said_by_script)
     with tempfile.TemporaryDirectory(prefix="planted-") as folder:
         folder, texts = tools.copy_sources(pathlib.Path(folder), tools.crates_of()), {}

@@ -28,7 +28,7 @@ def crates_of(*names):
 
 
 def copy_sources(folder, crates, proved=False):
-    """Copies the tests and crates; with `proved` also the proofs, with links of out/, which rt replaces and never writes over."""
+    """Copies the tests and crates; with `proved` also the proofs, and links of out/, which rt replaces and never writes to."""
     shutil.copytree(TESTS, folder / "tests", ignore=shutil.ignore_patterns("__pycache__"))
     for name in ("HANDLES", "Makefile"):
         shutil.copy(TOP / name, folder)
