@@ -3,7 +3,7 @@
 has a part, and draws docs/speed.svg where it measured all of them.
 
     tests/bench.py [ROUNDS] [WORD..]                  9 rounds where none are given
-    tests/bench.py --against DIR [ROUNDS] [WORD..]    half_bench of this tree and of one built there, 3 rounds in each of 6 orders
+    tests/bench.py --against DIR [ROUNDS] [WORD..]    half_bench of this tree and of one built there, 3 rounds in 6 orders each
 
 Words pick rows of times: operations, `u64`, `String` and sizes; `memory` and `reads` those tables.
 """

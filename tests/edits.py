@@ -6,9 +6,8 @@
 tests/edits/CRATE/PATH.edits has those of crates/CRATE/src/PATH.rt, each below a line `edit: NAME` that says its fault. The text
 of a line `old: TEXT` stands once in that file, and that of `new: TEXT` takes its place; `file: PATH` above them names another
 file of the crate. The prover has to refuse the edit: a contract that lets a fault through is too weak. With a line
-`refused by: CLAUSE` it has to be a goal of this clause that is not proved; where a call has one clause, the line names the goal of
-a return. Where no contract can, `found by: FILE` names the script or the search that finds it, or `the tests of half_tests`, or
-`the random run 1, work of clear`, `coverage.py FUNCTION` or `instructions.py ROW SIZE` (planted.py), and a comment says why.
+`refused by: CLAUSE` it has to be a goal of this clause that is not proved; where a call has one clause, the line names the goal
+of a return. Where no contract can, `found by: ..` names what finds it, by the head of planted.py, and a comment says why.
 
 The crates are proved first, where out/ lacks that. Then several checks run at a time, each in a copy of the sources with links
 of out/. A check tries several edits that change different functions: a caller is proved by the contracts of what it calls, so
@@ -150,8 +149,8 @@ class Check:
                 self.unread = self.unread or line
 
     def goal_of(self, functions, clause):
-        """What names a goal of this clause, or of any where it is empty, that is not proved, of one of these functions, or of any
-        where they are None; or None."""
+        """What names a goal of this clause, or of any where it is empty, that is not proved, of one of these functions, or of
+        any where they are None; or None."""
         is_of = re.compile(rf"`[^`]*{re.escape(clause)}`").search if clause else bool
         for line, path, number, _, text in self.told:
             # That a function calls one that is not proved is no goal of its own.

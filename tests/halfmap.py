@@ -208,7 +208,7 @@ def a_limit_of_memory():
 
 
 def a_refused_growth_takes_no_longer_in_a_large_map():
-    """It fills no memory before all of it is granted: of a million insertions more than half are refused, in the time of a run."""
+    """It fills no memory before all is granted: of a million insertions more than half are refused, in the time of a run."""
     text = b"".join(b"i %d 1\n" % key for key in range(1_000_000))
     times = []
     for streams in ("", "ulimit -v 25000 &&"):

@@ -133,7 +133,7 @@ class Script:
 
     def draw(self):
         """A call of the deck. In each state all come evenly: each lies apart from those before it, by the golden ratio."""
-        *_, state = self.a.states()
+        state = self.a.state()
         self.drawn[state] += 1
         return DECK[bisect.bisect(SUMS, self.drawn[state] * GOLDEN % 1 * SUMS[-1])]
 

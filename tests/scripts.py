@@ -3,15 +3,15 @@
 
     tests/scripts.py [WORD..]    plays all of them, or those whose name has one of the words
 
-docs/SCRIPTS.md has the lines. `# ..` is a comment, and `<3: 8n n+1>` stands for its words with 0, 1 and 2 for `n`: `0 1 8 2 16 3`.
+docs/SCRIPTS.md has the lines. `# ..` is a comment, and `<3: 8n n+1>` stands for its words with 0, 1, 2 for `n`: `0 1 8 2 16 3`.
 `= WANTED` is the answer of the call above it, and may lack the fields after the form. Each first line begins anew, in a process
 of its own. A line too many fails, such as `kept N blocks` of the allocator. If `refused` stands once between two first lines,
 these lines are played with the first request of that call refused, with the second, and so on until none is, with each two in a
 row, and with all. It and later calls may then have other answers, `or WANTED`, and some play must give each. If it stands more
 often, one play refuses all requests.
 
-The program is the one that WITNESS names, or the proved one. A call passes where each play meets a line that is wanted of it. One
-that fails is printed as scripts/FILE:LINE with what was found, and the last line is "N passed, M failed".
+The program is the one that WITNESS names, or the proved one. A call passes where each play meets a line that is wanted of it.
+One that fails is printed as scripts/FILE:LINE with what was found, and the last line is "N passed, M failed".
 """
 
 import dataclasses

@@ -2,9 +2,9 @@
 """Searches the sources of what users take for what neither a proof nor a run shows: values that are forgotten, and
 work that is done beside the count.
 
-A rule is a sentence, a pattern that stands nowhere, and the files that are allowed to have it. Comments, clauses, `use` lines and
-tests are left out, and so is each plain call whose body is its counted call in `uncounted!`; white space is one space. Each line
-of QUOTED stands once, word for word; `..` is the rest of a signature.
+A rule is a sentence, a pattern that stands nowhere, and the files that are allowed to have it. Comments, clauses, `use` lines
+and tests are left out, and so is each plain call whose body is its counted call in `uncounted!`; white space is one space. Each
+line of QUOTED stands once, word for word; `..` is the rest of a signature.
 """
 
 import re
