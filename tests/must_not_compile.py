@@ -18,7 +18,6 @@ import tools
 
 CASE = re.compile(r"^(\w+): (.*)\n((?:    .*\n)+)", re.M)
 ERROR = re.compile(r"^src/(\w+)\.rt:\d+:\d+: (error\[[^\]]*\])", re.M)
-COMPILES = "compiles"
 MODULE = """use halfbrown::{{DefaultHashBuilder, RawEntryMut, SizedHashMap}};
 
 pub fn main(rt: &HostRuntime) {{
@@ -44,14 +43,11 @@ def judge(bodies, crate):
     found, said = {}, ""
     while rest := {name: body for name, body in bodies.items() if name not in found}:
         said = compile_crate(rest, crate)
-        errors = ERROR.findall(said)
+        errors = {(name, code) for name, code in ERROR.findall(said) if name in rest}
         if not errors:
-            return found | dict.fromkeys(rest, COMPILES if "run=ended status=0" in said else "no end"), said
-        new = {name: ", ".join(sorted({code for it, code in errors if it == name})) for name, _ in errors if name in rest}
-        if not new:
-            # What the compiler stops at is in none of them.
-            break
-        found |= new
+            # These compile, or the compiler stops at what is in none of them.
+            return found | dict.fromkeys(rest, "compiles" if "run=ended status=0" in said else "no end"), said
+        found |= {name: ", ".join(sorted(code for it, code in errors if it == name)) for name, _ in errors}
     return found, said
 
 

@@ -34,8 +34,6 @@ say too little:
 `or_default` does.
 """
 
-import dataclasses
-
 from model.all_pairs import BOTH_CALLS, OF_A_CALLS
 from model.basics import GREATEST, NOTHING, SMALL_BYTES, Key
 from model.one_key import ONE_KEY_CALLS
@@ -81,18 +79,10 @@ def keys_in(said):
     return isinstance(said, Key) and said.mark is not None
 
 
-@dataclasses.dataclass
-class Call:
-    """A line: the pattern of its call, what its words say, and whether it may be refused memory."""
-
-    pattern: str
-    said: list
-    is_refused: bool
-
-    def values(self):
-        """How many values are made of what the words say."""
-        places = places_of(self.pattern)
-        return places.count("V") + (len(self.said[-1]) if places[-1] == "ITEMS" else 0)
+def values_in(pattern, said):
+    """How many values are made of what the words of a call say."""
+    places = places_of(pattern)
+    return places.count("V") + (len(said[-1]) if places[-1] == "ITEMS" else 0)
 
 
 def read_key(word):
@@ -155,7 +145,7 @@ REST = {"ITEMS": read_items, "COMMANDS": read_commands, "STEPS": read_steps}
 
 
 def read_call(line, kind):
-    """The call of a line, which `refused` may stand before, on maps of this kind."""
+    """The pattern of a line's call, which `refused` may stand before, and what it says, on maps of this kind."""
     words = line.removeprefix("refused ").split(" ")
     pattern = PATTERNS[name_of(words)]
     *places, last = places_of(pattern)
@@ -165,7 +155,7 @@ def read_call(line, kind):
         said = read_places([*places, last], words)
     if kind == "unit":
         said = [no_value(place, it) for place, it in zip(filter(str.isupper, [*places, last]), said)]
-    return Call(pattern, said, line.startswith("refused "))
+    return pattern, said
 
 
 def read_first(line):
