@@ -3,8 +3,8 @@
 // The program marks each call by a write of no bytes to standard output, right before it, and one that may be refused
 // memory by two. From the mark to the end of the line that it writes then, its requests are counted, and the line gets
 // two fields more, ` | requests N | peak BYTES`: how many bytes more than before the call were granted at a time. A block
-// that gets another size counts twice meanwhile. Of the requests of a call that was marked twice these return NULL: all,
-// or, where REFUSE_FROM is set, those from REFUSE_FROM to REFUSE_TO, counted from 1 in the call.
+// that gets another size counts twice meanwhile. Of the requests of a call that was marked twice those from REFUSE_FROM to
+// REFUSE_TO, counted from 1 in the call, return NULL.
 //
 // With REFUSE_UNMARKED nothing is marked: all requests of the program are counted, from its start, those from
 // REFUSE_FROM to REFUSE_TO return NULL, and a line on standard error tells of each.
@@ -19,15 +19,11 @@
 #include <unistd.h>
 
 extern void *__libc_malloc(size_t size);
-extern void *__libc_calloc(size_t count, size_t size);
-extern void *__libc_realloc(void *block, size_t size);
 extern void __libc_free(void *block);
 
 // How often the call was marked whose line is not yet written to its end, and the requests since.
 static int marks;
 static long requests;
-// Whether the last thing that was written was a mark.
-static int is_right_after_mark;
 // How many blocks are granted and not freed, and their bytes.
 static long blocks, granted;
 // These bytes when the call was marked, and the most that they were since.
@@ -35,24 +31,16 @@ static long granted_before, most_granted;
 // Before each block stands its size, in as many bytes as blocks are aligned to.
 enum { HEAD = 16 };
 
-// The number that a variable of the environment gives, or another one.
-static long number(const char *name, long otherwise) {
+// The number that a variable of the environment gives, or 0.
+static long number(const char *name) {
     const char *text = getenv(name);
-    return text == NULL ? otherwise : atol(text);
-}
-
-static int is_chosen(void) {
-    long first = number("REFUSE_FROM", 1);
-    return first <= requests && requests <= number("REFUSE_TO", requests);
+    return text == NULL ? 0 : atol(text);
 }
 
 static int is_refused(void) {
-    int is_unmarked = getenv("REFUSE_UNMARKED") != NULL;
-    is_right_after_mark = 0;
-    if (marks == 0 && !is_unmarked)
-        return 0;
+    int is_unmarked = number("REFUSE_UNMARKED");
     requests++;
-    if (!(is_unmarked || marks > 1) || !is_chosen())
+    if ((!is_unmarked && marks < 2) || requests < number("REFUSE_FROM") || requests > number("REFUSE_TO"))
         return 0;
     if (is_unmarked)
         syscall(SYS_write, STDERR_FILENO, "refused\n", 8);
@@ -60,8 +48,8 @@ static int is_refused(void) {
     return 1;
 }
 
-// The block behind this head, which has this size.
-static void *counted(long *head, size_t size) {
+void *malloc(size_t size) {
+    long *head = is_refused() ? NULL : __libc_malloc(HEAD + size);
     if (head == NULL)
         return NULL;
     *head = size;
@@ -72,26 +60,18 @@ static void *counted(long *head, size_t size) {
     return (char *)head + HEAD;
 }
 
-// The head of a block that is no longer counted.
-static long *uncounted(void *block) {
-    if (block == NULL)
-        return NULL;
-    long *head = (long *)((char *)block - HEAD);
-    blocks--;
-    granted -= *head;
-    return head;
-}
-
-void *malloc(size_t size) {
-    return is_refused() ? NULL : counted(__libc_malloc(HEAD + size), size);
-}
-
 void *calloc(size_t count, size_t size) {
-    return is_refused() ? NULL : counted(__libc_calloc(1, HEAD + count * size), count * size);
+    void *block = malloc(count * size);
+    return block == NULL ? NULL : memset(block, 0, count * size);
 }
 
 void free(void *block) {
-    __libc_free(uncounted(block));
+    long *head = (long *)((char *)block - HEAD);
+    if (block == NULL)
+        return;
+    blocks--;
+    granted -= *head;
+    __libc_free(head);
 }
 
 void *realloc(void *block, size_t size) {
@@ -106,13 +86,6 @@ void *realloc(void *block, size_t size) {
         free(block);
     }
     return moved;
-}
-
-static void mark(void) {
-    marks = is_right_after_mark ? marks + 1 : 1;
-    requests = 0;
-    granted_before = most_granted = granted;
-    is_right_after_mark = 1;
 }
 
 static int write_all(const char *bytes, size_t size) {
@@ -136,13 +109,14 @@ static ssize_t write_with_fields(const char *bytes, size_t size, const char *end
 }
 
 ssize_t write(int file, const void *bytes, size_t size) {
-    if (file != STDOUT_FILENO || getenv("REFUSE_UNMARKED") != NULL)
+    if (file != STDOUT_FILENO || number("REFUSE_UNMARKED"))
         return syscall(SYS_write, file, bytes, size);
     if (size == 0) {
-        mark();
+        marks++;
+        requests = 0;
+        granted_before = most_granted = granted;
         return 0;
     }
-    is_right_after_mark = 0;
     const char *end = marks > 0 ? memchr(bytes, '\n', size) : NULL;
     return end == NULL ? syscall(SYS_write, file, bytes, size) : write_with_fields(bytes, size, end);
 }

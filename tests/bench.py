@@ -3,7 +3,7 @@
 has a part, and draws docs/speed.svg where it measured all of them.
 
     tests/bench.py [ROUNDS] [WORD..]                  9 rounds where none are given
-    tests/bench.py --against DIR [ROUNDS] [WORD..]    half_bench of this tree and of one built there, 3 rounds in each of six orders
+    tests/bench.py --against DIR [ROUNDS] [WORD..]    half_bench of this tree and of one built there, 3 rounds in 6 orders each
 
 Words pick rows of times: operations, `u64`, `String` and sizes; `memory` and `reads` those tables.
 """
@@ -23,8 +23,8 @@ import tempfile
 import time
 
 import picture
+import tools
 
-TOP = pathlib.Path(__file__).resolve().parent.parent
 MAPS = ["halfbrown", "std", "indexmap"]
 # The types of keys, each with the most pairs: texts in maps of a million pairs would take most of the time.
 KEYS = {"u64": 1_000_000, "String": 100_000}
@@ -39,16 +39,8 @@ FULL, BUCKETS = 3 << 16, picture.BUCKETS
 Place = collections.namedtuple("Place", "operation keys pairs")
 # In so many orders `--against` links the functions of each program, since the order alone changes a time by .8 to 1.25.
 ORDERS = 6
-# What the picture shows of this map, and of std's: times by place, and bytes by keys and pairs.
+# Times of this map, and of std's, by place, and bytes by keys and pairs.
 DRAWN = {}
-
-
-def build():
-    """Proves and builds half_bench, and returns its path."""
-    print("half_bench: proving and building, where something has changed", file=sys.stderr)
-    if subprocess.run([TOP / "tests/prove.sh", "half_bench", "run"]).returncode:
-        sys.exit(1)
-    return TOP / "crates/half_bench/out/half_bench"
 
 
 def print_table(heads, rows, texts=1):
@@ -91,9 +83,8 @@ def spread(found):
     return (ordered[-1 - quarter] - ordered[quarter]) / max(statistics.median(found), 0.01)
 
 
-def print_times(rounds, words):
+def print_times(program, rounds, words):
     """Prints a table for each operation."""
-    program = build()
 
     def row(place):
         print(*place, file=sys.stderr)
@@ -114,24 +105,23 @@ def print_times(rounds, words):
 
 def shuffled(program, order, folder):
     """Links a program anew, its functions in a random order, by the kit's linker with an lld that gets one flag more."""
-    kit, tools = pathlib.Path(shutil.which("rt")).resolve().parent.parent, tempfile.mkdtemp(dir=folder)
-    shutil.copytree(kit / "toolchain", tools, symlinks=True, copy_function=os.symlink, dirs_exist_ok=True)
-    lld, output = pathlib.Path(tools, "bin/ld.lld"), pathlib.Path(tools, "program")
+    kit, links = pathlib.Path(shutil.which("rt")).resolve().parent.parent, tempfile.mkdtemp(dir=folder)
+    shutil.copytree(kit / "toolchain", links, symlinks=True, copy_function=os.symlink, dirs_exist_ok=True)
+    lld, output = pathlib.Path(links, "bin/ld.lld"), pathlib.Path(links, "program")
     lld.unlink()  # else the file that it leads to would be written
     lld.write_text(f'#!/bin/sh\nexec "{kit}/toolchain/bin/ld.lld" "$@" "--shuffle-sections=.text*={order}"\n')
     lld.chmod(0o755)
-    link = [kit / "bin/rattle-link", "--target", "x86_64-unknown-linux-gnu", "--toolchain", tools, "-o", output]
+    link = [kit / "bin/rattle-link", "--target", "x86_64-unknown-linux-gnu", "--toolchain", links, "-o", output]
     subprocess.run([*link, f"{program}.o", *(kit / "c" / it for it in ("libos_c.a", "liblibc_c.a"))], check=True)
     return output
 
 
-def print_against(other, rounds, words, folder):
+def print_against(program, other, rounds, words, folder):
     """Prints how long this tree's maps take by those of another tree. The means of std's and indexmap's should be about 1."""
     other = pathlib.Path(other).resolve() / "crates/half_bench/out/half_bench"
     if not other.exists():
         sys.exit(f"{other}: not built")
-    built = build(), other
-    orders = [[shuffled(program, order, folder) for program in built] for order in range(1, ORDERS + 1)]
+    orders = [[shuffled(built, order, folder) for built in (program, other)] for order in range(1, ORDERS + 1)]
     # All run on one processor, so that none has a better one, and they take turns, also in which goes first.
     os.sched_setaffinity(0, {max(os.sched_getaffinity(0))})
 
@@ -176,7 +166,7 @@ def memory_rows(program):
 
 
 def reads_lines(program):
-    """For each load the lines that the program prints of each type of keys, as numbers: of reads, and of those of many buckets."""
+    """For each load the lines that the program prints of each type of keys: of reads, and of reads of many buckets."""
     commands = [[program, "reads", keys, str(FULL)] for keys in KEYS]
     found = [subprocess.run(it, capture_output=True, text=True, check=True).stdout.splitlines() for it in commands]
     lines = [[list(map(int, line.split())) for line in both] for both in zip(*found)]
@@ -185,7 +175,7 @@ def reads_lines(program):
 
 
 def reads_rows(loads):
-    """The buckets that a miss reads on average, an insertion since the table was empty, and a hit: by proof, and as measured."""
+    """The buckets that a miss reads on average, an insertion since the table was empty, and a hit: by proof, and measured."""
     for both, *_ in loads:
         held = both[0][0]
         free = BUCKETS / (BUCKETS - held)
@@ -204,23 +194,18 @@ def long_rows(loads):
         yield [f"{held / BUCKETS:.3f}", many, *map(picture.one_in, parts)]
 
 
-def print_others(words):
+def print_others(program, words):
     if "memory" in words:
         print("\nMemory, in bytes a pair at the peak:\n")
-        print_table(["keys", "pairs a map", "maps", *MAPS], memory_rows(build()))
+        print_table(["keys", "pairs a map", "maps", *MAPS], memory_rows(program))
     if "reads" in words:
         print(f"\nBuckets that a probe reads on average, in a table of {BUCKETS:,}:\n")
         heads = [f"{what}, {how}" for what in ("a miss", "an insertion", "a hit") for how in ("at most", *KEYS)]
-        loads = reads_lines(build())
+        loads = reads_lines(program)
         print_table(["load", *heads], reads_rows(loads))
         print("\nOne search in so many reads more buckets:\n")
         heads = ["misses, by proof", *(f"{what}, {keys}" for what in ("misses", "hits") for keys in KEYS)]
         print_table(["load", "more than", *heads], long_rows(loads))
-
-
-def draw():
-    times = {it: {size: DRAWN[it, "u64", size] for size in picture.PAIRS} for it in picture.OPERATIONS}
-    picture.write(times, {keys: {size: DRAWN[keys, size] for size in SIZES} for keys in KEYS})
 
 
 def print_machine(seconds):
@@ -233,27 +218,29 @@ def print_machine(seconds):
 
 
 def main():
-    began, words = time.monotonic(), sys.argv[1:]
-    if words == ["--against"]:
-        sys.exit("--against: with which tree? Give its folder")
-    other = words[1] if words[:1] == ["--against"] else None
-    words = words[2:] if other else words
+    began, words, other = time.monotonic(), sys.argv[1:], None
+    if words[:1] == ["--against"]:
+        _, other, *words = words if len(words) > 1 else sys.exit("--against: with which tree? Give its folder")
     # A size is a number too, so the rounds are told by their place.
     rounds = int(words.pop(0)) if words and words[0].isdigit() else 3 if other else 9
     known = [*OPERATIONS, *KEYS, *map(str, SIZES), *([] if other else OTHERS)]
     if unknown := [it for it in words if it not in known]:
         sys.exit(f"{unknown[0]}: not one of {' '.join(known)}")
     minutes = math.ceil(0.6 * rounds * (2 * ORDERS if other else 1))
-    print(f"After the proofs, all rows take about {minutes} minutes", file=sys.stderr)
-    rows = [it for it in words if it not in OTHERS]
-    with tempfile.TemporaryDirectory() as folder:
-        if other:
-            return print_against(other, rounds, words, pathlib.Path(folder))
-        if rows or not words:
-            print_times(rounds, rows)
-        print_others(words or OTHERS)
+    print(f"After the proofs of half_bench, all rows take about {minutes} minutes", file=sys.stderr)
+    if subprocess.run([tools.TESTS / "prove.sh", "half_bench", "run"]).returncode:
+        sys.exit(1)
+    program, rows = tools.program("half_bench"), [it for it in words if it not in OTHERS]
+    if other:
+        with tempfile.TemporaryDirectory() as folder:
+            return print_against(program, other, rounds, words, folder)
+    if rows or not words:
+        print_times(program, rounds, rows)
+    print_others(program, words or OTHERS)
     if not words:
-        draw()
+        # What the picture shows of this map, and of std's.
+        times = {it: {size: DRAWN[it, "u64", size] for size in picture.PAIRS} for it in picture.OPERATIONS}
+        picture.write(times, {keys: {size: DRAWN[keys, size] for size in SIZES} for keys in KEYS})
     print_machine(time.monotonic() - began)
 
 

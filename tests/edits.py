@@ -6,9 +6,8 @@
 tests/edits/CRATE/PATH.edits has those of crates/CRATE/src/PATH.rt, each below a line `edit: NAME` that says its fault. The text
 of a line `old: TEXT` stands once in that file, and that of `new: TEXT` takes its place; `file: PATH` above them names another
 file of the crate. The prover has to refuse the edit: a contract that lets a fault through is too weak. With a line
-`refused by: CLAUSE` it has to be a goal of this clause that is not proved; where a call has one clause, the line names the goal of
-a return. Where no contract can, `found by: FILE` names the script or the search that finds it, or `the tests of half_tests`, or
-`the random run 1, work of clear`, `coverage.py FUNCTION` or `instructions.py ROW SIZE` (planted.py), and a comment says why.
+`refused by: CLAUSE` it has to be a goal of this clause that is not proved; where a call has one clause, the line names the goal
+of a return. Where no contract can, `found by: ..` names what finds it, by the head of planted.py, and a comment says why.
 
 The crates are proved first, where out/ lacks that. Then several checks run at a time, each in a copy of the sources with links
 of out/. A check tries several edits that change different functions: a caller is proved by the contracts of what it calls, so
@@ -26,12 +25,12 @@ import subprocess
 import sys
 import tempfile
 import time
-from concurrent.futures import FIRST_COMPLETED, ThreadPoolExecutor, wait
+from concurrent.futures import ThreadPoolExecutor, as_completed
 
 import planted
+import tools
 
-TOP = planted.TOP
-EDITS = TOP / "tests/edits"
+EDITS = tools.TESTS / "edits"
 # What memory a check takes at most, and how many edits are tried in one.
 MEMORY = 2_000_000_000
 BATCH = 24
@@ -40,6 +39,7 @@ PLACED = re.compile(r"(?:note: )?(?:\./)?((?:src|specs|proofs)/\S+?):(\d+):\d+: 
 NO_NAME = re.compile(r"has no field|is not in scope|has no `|was not admitted|is no name")
 # A proof that was not read says nothing of a contract either.
 UNREAD = re.compile(r"was rejected, (?:was|were) not checked")
+ENDS = "logic=proved", "logic=not-proved", "only="
 FUNCTION = re.compile(r"( *)(?:pub(?:\([^)]*\))? )?(?:const |unsafe )*fn (\w+)")
 IMPL = re.compile(r"(?:[\w:]*?(\w+)(?:<(\w*).*>)?\s+for )?(&(?:'\w+ )?)?(mut )?([\w:]+)(?:<.*>)?", re.S)
 
@@ -51,21 +51,16 @@ class Edit:
         self.place = str(path.relative_to(EDITS).with_suffix(""))
         self.crate, _, module = self.place.partition("/")
         self.name, *lines = text.splitlines()
-        self.changes, self.found_by, self.clause, file, old = [], None, "", f"src/{module}.rt", None
+        self.changes, said = [], {"file": f"src/{module}.rt", "old": None, "found by": None, "refused by": ""}
         for line in lines:
-            word, _, rest = line.partition(": ") if ": " in line else line.partition(":")
-            if word == "file":
-                file = rest
-            elif word == "old":
-                old = rest
-            elif word == "new" and old:
-                self.changes.append((file, old, rest))
-            elif word == "found by":
-                self.found_by = rest
-            elif word == "refused by":
-                self.clause = rest
+            word, rest = re.fullmatch(r"(.*?)(?:: ?(.*))?", line).groups()
+            if word == "new" and said["old"]:
+                self.changes.append((said["file"], said["old"], rest))
+            elif word in said:
+                said[word] = rest
             elif line and not line.startswith("#"):
                 raise ValueError(f"{self}: no such line: {line}")
+        self.found_by, self.clause = said["found by"], said["refused by"]
 
     def __str__(self):
         return f"{self.place} {self.name}"
@@ -137,23 +132,25 @@ def function_at(file, lines, at, names):
     return Function(called[0], file, first, last) if at <= last and len(called) == 1 else None
 
 
-class Said:
-    """What a check printed."""
+class Check:
+    """What a check of these functions says, or of the whole crate where there are none."""
 
-    def __init__(self, printed):
+    def __init__(self, crate, functions=()):
+        command = ["rt", "check", "--jobs", "1", *(f"--only={it.name}" for it in functions)]
+        ran = subprocess.run(command, cwd=crate, stdin=subprocess.DEVNULL, capture_output=True, errors="replace")
         # A message may go on in indented lines.
-        self.lines = re.sub(r"\n {2,}", " ", printed).splitlines()
+        self.lines = re.sub(r"\n {2,}", " ", ran.stdout + ran.stderr).splitlines()
         told = [it for it in self.lines if PLACED.fullmatch(it) and (": error" in it or it.startswith("note: "))]
         self.told = [(it, *PLACED.fullmatch(it).groups()) for it in told]
-        ended = re.search(r"^logic=(?:not-)?proved|^only=", printed, re.M)
+        ended = any(it.startswith(ENDS) for it in self.lines)
         self.unread = None if ended else (self.lines or ["nothing was said"])[-1]
         for line, path, _, name, text in self.told:
             if ": error" in line and not path.startswith("proofs/") and (not name or NO_NAME.search(text)):
                 self.unread = self.unread or line
 
     def goal_of(self, functions, clause):
-        """What names a goal of this clause, or of any where it is empty, that is not proved, of one of these functions, or of any
-        where they are None; or None."""
+        """What names a goal of this clause, or of any where it is empty, that is not proved, of one of these functions, or of
+        any where they are None; or None."""
         is_of = re.compile(rf"`[^`]*{re.escape(clause)}`").search if clause else bool
         for line, path, number, _, text in self.told:
             # That a function calls one that is not proved is no goal of its own.
@@ -162,13 +159,6 @@ class Said:
                 return line.removeprefix("note: ")
         starts = "fn " if functions is None else tuple(f"fn {it.name}: " for it in functions)
         return next((it for it in self.lines if "did not prove" in it and it.startswith(starts) and is_of(it)), None)
-
-
-def check(crate, functions):
-    """What a check of these functions says, or of the whole crate where there are none."""
-    command = ["rt", "check", "--jobs", "1", *(f"--only={it.name}" for it in functions)]
-    ran = subprocess.run(command, cwd=crate, stdin=subprocess.DEVNULL, capture_output=True, errors="replace")
-    return Said(ran.stdout + ran.stderr)
 
 
 def attempt(edits, crate, names):
@@ -181,11 +171,11 @@ def attempt(edits, crate, names):
         for file, text in texts.items():
             file.write_text(text)
         # The callers of what is changed cost time, and seldom say more.
-        said = check(crate, sum(functions, []))
+        said = Check(crate, sum(functions, []))
         goals = [None if said.unread else said.goal_of(it, edit.clause) for it, edit in zip(functions, edits)]
         if len(edits) > 1 or goals[0]:
             return [(True, it) if it else None for it in goals]
-        said = check(crate, []) if functions[0] and not said.unread else said
+        said = Check(crate) if functions[0] and not said.unread else said
         goal = None if said.unread else said.goal_of(None, edits[0].clause)
         lost = f"only a proof lost a name: {said.told[0][0]}" if said.told else "all is proved"
         return [(bool(goal), goal or said.unread or lost)]
@@ -234,55 +224,46 @@ def in_batches(edits, crate, names):
 
 def prove(crate):
     """Proves a crate where out/ lacks that, builds what the crates above it read, and returns the names of its functions."""
-    folder, began = TOP / "crates" / crate, time.monotonic()
-    if subprocess.run([planted.TESTS / "prove.sh", crate, "check" if (folder / "src/main.rt").is_file() else "lib"]).returncode:
+    folder, began = tools.TOP / "crates" / crate, time.monotonic()
+    if subprocess.run([tools.TESTS / "prove.sh", crate, "check" if (folder / "src/main.rt").is_file() else "lib"]).returncode:
         sys.exit("0 passed, 1 failed")
     print(f"{crate}: proved, {time.monotonic() - began:.0f} s", flush=True)
     # This takes what is proved, and names each function.
-    said = subprocess.run(["rt", "check"], cwd=folder, capture_output=True, text=True).stdout
-    return sorted({*re.findall(r"^fn (\S+): proved$", said, re.M)})
+    return sorted({it[1] for line in Check(folder).lines if (it := re.fullmatch(r"fn (\S+): proved", line))})
 
 
 def main(words):
     texts = {path: re.split(r"^edit: ", path.read_text(), flags=re.M)[1:] for path in sorted(EDITS.rglob("*.edits"))}
-    edits = [Edit(path, text) for path in texts for text in texts[path]]
-    known = edits
+    known = [Edit(path, text) for path in texts for text in texts[path]]
     edits = [it for it in known if not words or any(word in str(it) for word in words)]
     if not edits:
         sys.exit("\n".join([*map(str, known), f"none of these edits has {' or '.join(words)} in its path or name"]))
     refused = [it for it in edits if not it.found_by]
-    names = {crate: prove(crate) for crate in planted.crates_of() if any(it.crate == crate for it in refused)}
+    names = {crate: prove(crate) for crate in tools.crates_of() if any(it.crate == crate for it in refused)}
     batches = planted.in_programs([it for it in edits if it.found_by])
     for crate in names:
-        batches += in_batches([it for it in refused if it.crate == crate], TOP / "crates" / crate, names[crate])
+        batches += in_batches([it for it in refused if it.crate == crate], tools.TOP / "crates" / crate, names[crate])
     memory = 1024 * int(re.search(r"MemAvailable:\s+(\d+)", pathlib.Path("/proc/meminfo").read_text())[1])
     lanes = max(1, min(int(os.environ.get("JOBS") or len(os.sched_getaffinity(0))), memory // MEMORY, len(batches)))
-    began, passed, ended, copies = time.monotonic(), 0, 0, queue.SimpleQueue()
+    began, copies, alone, told = time.monotonic(), queue.SimpleQueue(), [], []
     # Below out/, since links do not lead to another disk.
-    (TOP / "out").mkdir(exist_ok=True)
-    with tempfile.TemporaryDirectory(prefix="edits.", dir=TOP / "out") as folder, ThreadPoolExecutor(lanes) as pool:
+    (tools.TOP / "out").mkdir(exist_ok=True)
+    with tempfile.TemporaryDirectory(prefix="edits.", dir=tools.TOP / "out") as folder, ThreadPoolExecutor(lanes) as pool:
         for number in range(lanes):
-            copies.put(planted.copy_sources(pathlib.Path(folder, str(number)), planted.crates_of(*names), proved=True))
-        tried = {pool.submit(try_in, copies, it, names): it for it in batches}
-        while tried:
-            for done in wait(tried, return_when=FIRST_COMPLETED)[0]:
+            copies.put(tools.copy_sources(pathlib.Path(folder, str(number)), tools.crates_of(*names), proved=True))
+        for together in (batches, alone):
+            tried = {pool.submit(try_in, copies, it, names): it for it in together}
+            for done in as_completed(tried):
                 found, seconds = done.result()
-                for edit, it in zip(tried.pop(done), found):
-                    if it is None:
-                        tried[pool.submit(try_in, copies, [edit], names)] = [edit]
-                        continue
-                    passed += it[0]
-                    ended += 1
-                    how = "FAILED" if not it[0] else "found" if edit.found_by else "refused"
-                    print(f"{edit}: {how}, {seconds:.0f} s: {it[1][:180]}", flush=True)
-                    if ended % 20 == 0:
-                        left = (time.monotonic() - began) / 60 * (len(edits) / ended - 1)
-                        print(f"{ended} of {len(edits)} edits: the others take {left:.0f} minutes at this pace", flush=True)
+                alone += [[edit] for edit, it in zip(tried[done], found) if it is None]
+                for edit, (passes, why) in [both for both in zip(tried[done], found) if both[1]]:
+                    how = "FAILED" if not passes else "found" if edit.found_by else "refused"
+                    told.append(None if passes else f"{edit}: {why}")
+                    print(f"{len(told)} of {len(edits)}, {edit}: {how}, {seconds:.0f} s: {why[:180]}", flush=True)
     print(f"{len(edits)} edits, {lanes} at a time: {(time.monotonic() - began) / 60:.1f} minutes")
-    print(f"{passed} passed, {len(edits) - passed} failed")
-    return passed < len(edits)
+    tools.end(told)
 
 
 if __name__ == "__main__":
     signal.signal(signal.SIGTERM, lambda *_: sys.exit(1))
-    sys.exit(main(sys.argv[1:]))
+    main(sys.argv[1:])

@@ -1,9 +1,10 @@
 #!/bin/bash
-# What `make test` runs, part by part: it fails where a part does, and its last line adds up theirs.
+# What `make test` and `.ci/run` run, part by part: it fails where a part does, and its last line adds up theirs.
 #
 #   tests/gate.sh            proves what users run, and builds the rest unproved beside that
 #   tests/gate.sh proved     takes what `rt ci` has proved and built
 #   tests/gate.sh covered    builds all unproved, and says which blocks no test enters
+#   tests/gate.sh all        proves all from nothing, counts the instructions of calls, does the last two, and tries every edit
 #
 # As many parts run at once as there are processors, at most four. Each has its line when it ends, so that their order differs.
 set -uo pipefail
@@ -31,23 +32,27 @@ part() {
     waiting+=("$2") first[$2]=$3 command[$2]=${*:4}
 }
 
-# start NAME: runs a part. The others give way to the proofs, which are long where something has changed, and to the longest build.
+# Of all that is long each line is shown as it comes.
+show() { if [ "$mode" = all ]; then sed -u "s/^/$1: /"; else cat >/dev/null; fi; }
+
+# start NAME: runs a part. Others give way to the proofs, which are long where something has changed, and to the longest build.
 start() {
     began[$1]=$SECONDS
     (
         [[ $mode != test || $1 = @(proofs|build of witness) ]] || renice -n 10 $BASHPID >/dev/null
-        ${command[$1]}
-    ) >"$folder/$1" 2>&1 </dev/null &
+        ${command[$1]} 2>&1 </dev/null | tee "$folder/$1" | show "$1"
+    ) &
     running[$!]=$1
 }
 
-# finish NAME STATUS: adds up a part. Its last line is "N passed, M failed"; where it has none, or was killed, its status counts.
+# finish NAME STATUS: adds up a part. Its last line is "N passed, M failed". In `all` each has one; where another has none, or
+# was killed, its status counts.
 finish() {
     local log="$folder/$1" counts
     counts=$(tail -n 1 "$log" | sed -n -E 's/^([0-9]+) passed, ([0-9]+) failed$/\1 \2/p')
-    [ -n "$counts" ] || counts=$([ "$2" -eq 0 ] && echo 1 0 || echo 0 1)
+    [ -n "$counts" ] || counts=$([ "$2" -eq 0 ] && [ "$mode" != all ] && echo 1 0 || echo 0 1)
     [ "$2" -eq 0 ] || [ "${counts#* }" -gt 0 ] || counts="${counts% *} 1"
-    [ "${counts#* }" -eq 0 ] || grep -vE '^[0-9]+ passed, [0-9]+ failed$' "$log"
+    [ "${counts#* }" -eq 0 ] || [ "$mode" = all ] || grep -vE '^[0-9]+ passed, [0-9]+ failed$' "$log"
     echo "$1: ${counts% *} passed, ${counts#* } failed, $((SECONDS - ${began[$1]})) s"
     passed=$((passed + ${counts% *}))
     failed=$((failed + ${counts#* }))
@@ -82,12 +87,6 @@ build() { make --no-print-directory -s "out/covered/$1" || { rm -f "out/covered/
 # Where it stands, or what `rt ci` has built.
 program() { [ "$mode" = proved ] && echo "$PWD/crates/$1/out/$1" || echo "$PWD/out/covered/$1"; }
 
-# Two megabytes of words are counted. They are long, since a program that is not proved counts slowly.
-counts_many() {
-    local words="internationalization electroencephalographically otorhinolaryngological"
-    "$(program word_count)" < <(yes "$words" | head -n 28000) | diff <(printf '%s 28000\n' $words) -
-}
-
 # What the gate says where it finds no tools, and `make run` in a copy of the tree, where halfmap is built and not proved: to a
 # line, where the reader of many answers goes away, and where nothing can be written.
 says() {
@@ -121,10 +120,16 @@ try_tests() {
         echo "0 passed, 1 failed"
 }
 
+# Tries every edit in a copy of the tree as it is now, since `rt ci` leaves processors idle where crates wait for one another.
+# They give way to it.
+edits() {
+    local tree=$folder/tree
+    mkdir "$tree" && git ls-files -z | xargs -0 cp --parents -t "$tree" && nice -n 10 "$tree/tests/edits.py"
+}
+
 rt version
 [ "$mode" != test ] || echo "Beside the proofs the programs are built unproved, and tested."
-WITNESS=$(program witness) JSON_AT=$(program json_at) HALFMAP=$(program halfmap)
-export WITNESS JSON_AT HALFMAP
+for it in witness halfmap json_at word_count; do export "${it^^}=$(program $it)"; done
 # What other runs have entered does not count.
 mkdir -p out/covered && rm -f out/covered/*.entered
 # The longest first, or what they wait for.
@@ -142,14 +147,17 @@ part tc "build of word_count" - build word_count
 part tc "tests of halfmap" - try_tests halfmap
 part tp "halfmap" proofs env -u HALFMAP tests/halfmap.py
 part tc "unproved halfmap" "build of halfmap" tests/halfmap.py
-part tpc "documents" "build of json_at" tests/documents.py
 part tp "what make says" "build of halfmap" says
-part tpc "many words" "build of word_count" counts_many
-part tpc "json_at" "build of json_at" tests/programs.py json_at "$(program json_at)"
-part tpc "word_count" "build of word_count" tests/programs.py word_count "$(program word_count)"
+part tpc "json_at" "build of json_at" tests/programs.py json_at
+part tpc "word_count" "build of word_count" tests/programs.py word_count
 part tp "sources" - tests/sources.py
 # Its tests are built where all is proved.
 part p "refused reads" - tests/refused_reads.py
+part a "rt ci" - rt ci
+part a "edits" - edits
+part a "instructions" "rt ci" tests/instructions.py
+part a "make test" "instructions" tests/gate.sh proved
+part a "covered" "make test" tests/gate.sh covered
 run_parts
 part tc "what was entered" - tests/coverage.py out/covered/{witness,halfmap,json_at,word_count,half{_tests,_serde,map}_tests}
 run_parts

@@ -9,30 +9,27 @@ import os
 import pathlib
 import re
 import subprocess
-import sys
-import tempfile
 import threading
 import time
 
-TESTS = pathlib.Path(__file__).resolve().parent
-PROGRAM = pathlib.Path(os.environ.get("HALFMAP") or TESTS.parent / "crates/halfmap/out/halfmap")
+import preloaded
+import tools
+
+PROGRAM = tools.program("halfmap")
 # Far more than any run takes, so that only one that does not end meets it.
 SECONDS = 60
 # What the program may take of memory where it holds few pairs, with the C library: its buffers have 8 KiB each.
 SMALL = 3 << 20
 MEBI = 1 << 20
 ALL_AT_ONCE = 1 << 20
-LIBRARIES = tempfile.TemporaryDirectory()
 
 
 class Run:
     """A run of the program, which is killed where it does not end. What is not as it should be is an AssertionError."""
 
-    def __init__(self, streams="", library=None, **variables):
-        """`streams` redirects streams as a shell does. A library of C is preloaded, and reads the variables."""
-        environment = os.environ | {name: str(value) for name, value in variables.items()}
-        if library:
-            environment["LD_PRELOAD"] = f"{LIBRARIES.name}/{library}.so"
+    def __init__(self, streams="", **variables):
+        """`streams` redirects streams as a shell does. With variables streams.c is preloaded, and reads them."""
+        environment = preloaded.environment("streams", **variables) if variables else None
         command = f'{streams} exec "$0"' if streams.endswith("&&") else f'exec "$0" {streams}'
         words = ("sh", "-c", command, PROGRAM) if streams else (PROGRAM,)
         pipes = {"stdin": subprocess.PIPE, "stdout": subprocess.PIPE, "stderr": subprocess.PIPE}
@@ -40,18 +37,17 @@ class Run:
         self.timer = threading.Timer(SECONDS, self.program.kill)
         self.timer.start()
 
-    def send(self, text, is_last=False):
-        """Sends all of a text while the answers are read. A program that has ended takes none."""
+    def send(self, text):
+        """Sends all of a text. A program that has ended takes none."""
         try:
             self.program.stdin.write(text)
             self.program.stdin.flush()
-            if is_last:
-                self.program.stdin.close()
         except BrokenPipeError:
             pass
 
-    def send_beside(self, text, is_last=False):
-        sender = threading.Thread(target=self.send, args=[text, is_last])
+    def send_beside(self, text):
+        """The same while the answers are read."""
+        sender = threading.Thread(target=self.send, args=[text])
         sender.start()
         return sender
 
@@ -71,12 +67,9 @@ class Run:
 
     def end(self, text=b""):
         """Sends a last text, and ends the input. Returns the answers, what is on standard error, and the status."""
-        self.send_beside(text, is_last=True)
-        streams = (self.program.stdout, self.program.stderr)
-        answers, errors = (b"" if it.closed else it.read() for it in streams)
-        status = self.program.wait()
+        answers, errors = self.program.communicate(text)
         self.timer.cancel()
-        return answers, errors, status
+        return answers, errors, self.program.returncode
 
     def ends(self, text, answers, status=0):
         """A last text is answered so, and the program ends so, with nothing on standard error."""
@@ -146,14 +139,14 @@ def bytes_that_come_in_any_way():
     text = b"i 1 10\ni 01 007\r\n\ng 1\ni 00000000000000000001 00000000000000000002\r\ng 000000000000000000001\nx\nf"
     answers = b"none\nwas 10\nbad line\n7\nwas 7\nbad line\nbad line\nvec 1\n"
     for way in [{"READ_MOST": most} for most in (1, 2, 7, ALL_AT_ONCE)] + [{"READ_INTERRUPTED": 1, "READ_MOST": 1}]:
-        Run(library="streams", **way).ends(text, answers)
+        Run(**way).ends(text, answers)
 
 
 def a_read_that_fails():
     """Whole lines before the failure are answered. A line that is cut off is not."""
     for text, answers in [(b"", b""), (b"i 1 2\ng 1\n", b"none\n2\n"), (b"i 1 2\ng 1", b"none\n"), (b"f\n\r", b"vec 0\n")]:
         for most in (1, 3, ALL_AT_ONCE):
-            Run(library="streams", READ_FAILS=1, READ_MOST=most).ends(text, answers, status=1)
+            Run(READ_FAILS=1, READ_MOST=most).ends(text, answers, status=1)
 
 
 def a_write_that_fails():
@@ -161,7 +154,7 @@ def a_write_that_fails():
     text, answers = b"f\ni 1 10\ni 1 20\nx\n", b"vec 0\nnone\nwas 10\nbad line\n"
     for room in range(len(answers) + 1):
         for most in (1, ALL_AT_ONCE):
-            run = Run(library="streams", WRITE_ROOM=room, READ_MOST=most)
+            run = Run(WRITE_ROOM=room, READ_MOST=most)
             run.ends(text, answers[:room], status=int(room < len(answers)))
 
 
@@ -190,18 +183,16 @@ def each_request_for_memory_refused():
     """The two buffers and the line are refused as it starts. Later one insertion finds no room, whichever, and nothing else."""
     keys, full = 3000, [0, 5, *(6 * 2**size for size in range(9))]
     text = b"".join(b"i %d 1\n" % key for key in range(keys)) + b"f\n"
-    for request in range(1, 4 + 4 * len(full)):
-        answers, errors, status = Run(library="allocator", REFUSE_UNMARKED=1, REFUSE_FROM=request, REFUSE_TO=request).end(text)
-        if errors == b"":
-            assert request > 3 + len(full), f"only {request - 1} requests"
-            return
+    *refused, whole = preloaded.each_request_refused([PROGRAM], text)
+    assert whole == (b"none\n" * keys + b"map %d\n" % keys, b"", 0), f"{whole[1:]} with all memory"
+    assert 3 + len(full) <= len(refused) < 3 + 4 * len(full), f"{len(refused)} requests"
+    for request, (answers, _, status) in enumerate(refused, 1):
         at, said = answers.count(b"none\n", 0, max(0, answers.find(b"no room"))), f"request {request} refused"
         if request <= 3:
             assert (answers, status) == (b"", 1), f"{said}: {len(answers)} bytes of answers, status {status}"
         else:
             wanted = b"none\n" * at + b"no room\n" + b"none\n" * (keys - at - 1) + b"map %d\n" % (keys - 1)
             assert (answers, status) == (wanted, 0) and at in full, f"{said}: no room at {at} pairs, status {status}"
-    raise AssertionError("it asks for more than each growth needs")
 
 
 def a_limit_of_memory():
@@ -217,7 +208,7 @@ def a_limit_of_memory():
 
 
 def a_refused_growth_takes_no_longer_in_a_large_map():
-    """It fills no memory before all of it is granted: of a million insertions more than half are refused, in the time of a run."""
+    """It fills no memory before all is granted: of a million insertions more than half are refused, in the time of a run."""
     text = b"".join(b"i %d 1\n" % key for key in range(1_000_000))
     times = []
     for streams in ("", "ulimit -v 25000 &&"):
@@ -231,24 +222,12 @@ def a_refused_growth_takes_no_longer_in_a_large_map():
     assert not is_slow, f"{times[1]:.1f} seconds where most are refused, and {times[0]:.1f} where none is"
 
 
-def main():
-    if not PROGRAM.is_file():
-        print("halfmap is not built: make prove proves and builds it\n0 passed, 1 failed")
-        return 1
-    for name in ("allocator", "streams"):
-        library = ["cc", "-O2", "-Wall", "-Wextra", "-shared", "-fPIC", "-o", f"{LIBRARIES.name}/{name}.so"]
-        subprocess.run([*library, TESTS / f"{name}.c"], check=True)
-    tests = [it for name, it in globals().items() if getattr(it, "__module__", "") == "__main__" and name.count("_") > 2]
-    failed = 0
-    for test in tests:
-        try:
-            test()
-        except AssertionError as fault:
-            failed += 1
-            print(f"{test.__name__}: {fault}")
-    print(f"{len(tests) - failed} passed, {failed} failed")
-    return 1 if failed or len(tests) < 10 else 0
+def told(test):
+    try:
+        test()
+    except AssertionError as fault:
+        return f"{test.__name__}: {fault}"
 
 
-if __name__ == "__main__":
-    sys.exit(main())
+tests = [it for name, it in list(globals().items()) if getattr(it, "__module__", "") == "__main__" and name.count("_") > 2]
+tools.end([told(it) for it in tests])

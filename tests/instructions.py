@@ -18,9 +18,9 @@ import subprocess
 import sys
 import tempfile
 
-TOP = pathlib.Path(__file__).resolve().parent.parent
-PROGRAM = TOP / "crates/half_bench/out/half_bench"
-TABLE = TOP / "tests/instructions.txt"
+import tools
+
+TABLE = tools.TESTS / "instructions.txt"
 SIZES = 10, 1_000, 30_000
 APART, GROWTH, ROUNDED = 0.01, 1.3, 0.005
 
@@ -37,7 +37,7 @@ def own(profile, program):
     return total
 
 
-def count(row, size, program=PROGRAM):
+def count(program, row, size):
     """How many instructions an operation takes: those between the two looks at the clock."""
     *call, keys = row.split()
     with tempfile.TemporaryDirectory() as folder:
@@ -57,32 +57,29 @@ def lines(words):
             yield " ".join(row), [float(small), float(middle), float(large)]
 
 
-def counted(rows):
+def counted(program, rows):
     """The rows, each with what is counted now, as it comes. As many programs run at once as there are processors."""
     with concurrent.futures.ThreadPoolExecutor(os.cpu_count()) as pool:
-        new = [[pool.submit(count, row, size) for size in SIZES] for row, _ in rows]
+        new = [[pool.submit(count, program, row, size) for size in SIZES] for row, _ in rows]
         for (row, old), numbers in zip(rows, new):
             yield row, old, [it.result() for it in numbers]
 
 
 def main():
     words = [it for it in sys.argv[1:] if it != "--write"]
-    if not PROGRAM.exists():
-        sys.exit(f"{PROGRAM} is not built: make instructions proves and builds it\n0 passed, 1 failed")
     if not shutil.which("valgrind"):
         return print("There is no valgrind, so no instructions are counted.\n0 passed, 0 failed")
-    rows, failed, written = list(lines(words)), 0, ""
-    for row, old, new in counted(rows):
+    told, written = [], ""
+    for row, old, new in counted(tools.program("half_bench"), [*lines(words)]):
         differs = any(abs(after - before) > APART * before + ROUNDED for before, after in zip(old, new))
         said = ", differs" * differs + ", grows" * (new[2] > GROWTH * new[1])
-        failed += bool(said)
+        told.append(row + said if said else None)
         three = (f"{before:10.2f} {after:10.2f} {after / before:.3f}" for before, after in zip(old, new))
         print(f"{row:50}", *three, said[1:], flush=True)
         written += f"{row:50}" + "".join(f"{it:12.2f}" for it in new) + "\n"
     if sys.argv[1:] == ["--write"]:
         TABLE.write_text(written)
-    print(f"{len(rows) - failed} passed, {failed} failed")
-    sys.exit(failed > 0)
+    tools.end(told)
 
 
 if __name__ == "__main__":

@@ -12,27 +12,18 @@ import pathlib
 import re
 import shutil
 import subprocess
-import sys
 import tempfile
 
-TOP = pathlib.Path(__file__).resolve().parent.parent
+import tools
+
 CASE = re.compile(r"^(\w+): (.*)\n((?:    .*\n)+)", re.M)
 ERROR = re.compile(r"^src/(\w+)\.rt:\d+:\d+: (error\[[^\]]*\])", re.M)
-COMPILES = "compiles"
 MODULE = """use halfbrown::{{DefaultHashBuilder, RawEntryMut, SizedHashMap}};
 
 pub fn main(rt: &HostRuntime) {{
     let mut map = SizedHashMap::<u64, u64, DefaultHashBuilder, 5>::new(rt.alloc());
 {}}}
 """
-
-
-def copy_libraries(folder):
-    """Copies the sources of the libraries, and names the crate that misuses them."""
-    (folder / "crates.txt").write_text("half_store: std_collections\nhalfbrown: half_store\nmisuse: halfbrown\n")
-    for name in ("half_store", "halfbrown"):
-        for part in ("src", "specs"):
-            shutil.copytree(TOP / "crates" / name / part, folder / "crates" / name / part)
 
 
 def compile_crate(bodies, crate):
@@ -52,31 +43,20 @@ def judge(bodies, crate):
     found, said = {}, ""
     while rest := {name: body for name, body in bodies.items() if name not in found}:
         said = compile_crate(rest, crate)
-        errors = ERROR.findall(said)
+        errors = {(name, code) for name, code in ERROR.findall(said) if name in rest}
         if not errors:
-            return found | dict.fromkeys(rest, COMPILES if "run=ended status=0" in said else "no end"), said
-        new = {name: ", ".join(sorted({code for it, code in errors if it == name})) for name, _ in errors if name in rest}
-        if not new:
-            # What the compiler stops at is in none of them.
-            break
-        found |= new
+            # These compile, or the compiler stops at what is in none of them.
+            return found | dict.fromkeys(rest, "compiles" if "run=ended status=0" in said else "no end"), said
+        found |= {name: ", ".join(sorted(code for it, code in errors if it == name)) for name, _ in errors}
     return found, said
 
 
-def main():
-    cases = CASE.findall((TOP / "tests/must_not_compile.txt").read_text())
-    with tempfile.TemporaryDirectory() as folder:
-        folder = pathlib.Path(folder)
-        copy_libraries(folder)
-        found, said = judge({name: body for name, _, body in cases}, folder / "crates/misuse")
-    failed = [(name, wanted) for name, wanted, _ in cases if found.get(name) != wanted]
-    for name, wanted in failed:
-        print(f"{name}: wanted {wanted}, found {found.get(name)}")
-    if failed:
-        print(said[-2000:])
-    print(f"{len(cases) - len(failed)} passed, {len(failed)} failed")
-    return bool(failed) or not cases
-
-
-if __name__ == "__main__":
-    sys.exit(main())
+cases = CASE.findall((tools.TESTS / "must_not_compile.txt").read_text())
+with tempfile.TemporaryDirectory() as folder:
+    folder = tools.copy_sources(pathlib.Path(folder), tools.crates_of("halfbrown"))
+    with open(folder / "crates.txt", "a") as lines:
+        lines.write("misuse: halfbrown\n")
+    found, said = judge({name: body for name, _, body in cases}, folder / "crates/misuse")
+told = [None if found.get(it) == wanted else f"{it}: wanted {wanted}, found {found.get(it)}" for it, wanted, _ in cases]
+print(said[-2000:] if any(told) else "", end="")
+tools.end(told)

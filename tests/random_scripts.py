@@ -4,6 +4,7 @@ what is held, so that a script can bring the map into each state, and make any c
 import bisect
 import collections
 import itertools
+import random
 
 from model.basics import ALL, GREATEST, MANY, MOST_PAIRS, RULES, Key
 from model.lines import CALLS, COMMANDS, LIMITS, MAKERS_FOR, OF_NUMBERS, OTHER_LIMITS, PLAIN_MAKERS
@@ -132,7 +133,7 @@ class Script:
 
     def draw(self):
         """A call of the deck. In each state all come evenly: each lies apart from those before it, by the golden ratio."""
-        *_, state = self.a.states()
+        state = self.a.state()
         self.drawn[state] += 1
         return DECK[bisect.bisect(SUMS, self.drawn[state] * GOLDEN % 1 * SUMS[-1])]
 
@@ -220,8 +221,9 @@ LONG += [((*first, rule), lambda script: script.flood(300, 2**14)) for first in 
 LONG += [(("map", limit, rule), lambda script: script.run_at_length(1000)) for limit in (0, 1, 2, 32) for rule in RULES]
 
 
-def make_script(chance, index):
+def make_script(seed, index):
     """The script of this index, of which the first ones are long."""
+    chance = random.Random(f"{seed} {index}")
     if index < len(LONG):
         first, fill = LONG[index]
         script = Script(chance, index, *first, 40)

@@ -5,53 +5,24 @@ error of memory, the other one whole, and all memory given back.
 It takes the tests as `rt ci` has proved and built them. The last line is "N passed, M failed".
 """
 
-import os
-import pathlib
 import re
-import subprocess
-import sys
-import tempfile
 
-from scripts import compile_allocator
+import preloaded
+import tools
 
-PROGRAM = pathlib.Path(__file__).resolve().parent.parent / "crates/half_serde/out/half_serde_tests"
+PROGRAM = tools.TOP / "crates/half_serde/out/half_serde_tests"
 TEST = "map::tests::a_refused_read_is_an_error_of_memory"
-# Far more requests than both reads make.
-MOST = 100
-WHOLE = "whole"
 REFUSED = re.compile(r"no memory after (\d+) bytes")
 
-
-def run(library, request):
-    """What the test prints, and whether this request was made, and so refused."""
-    refuse = {"REFUSE_UNMARKED": "1", "REFUSE_FROM": str(request), "REFUSE_TO": str(request)}
-    environment = os.environ | {"LD_PRELOAD": str(library)} | refuse
-    ran = subprocess.run([PROGRAM, TEST], env=environment, capture_output=True, text=True, timeout=60)
-    printed = [line for line in ran.stdout.split("\n") if line] + [f"status {ran.returncode}"]
-    return printed, "refused\n" in ran.stderr
-
-
-def main():
-    passed, faults, places = 0, [], set()
-    with tempfile.TemporaryDirectory() as folder:
-        library = compile_allocator(folder)
-        for request in range(1, MOST):
-            (*reads, said, status), was_made = run(library, request)
-            refused = [REFUSED.fullmatch(it) for it in reads]
-            is_fine = (said, status) == ("test result: ok", "status 0") and len(reads) == 2
-            is_fine = is_fine and sum(map(bool, refused)) == was_made and reads.count(WHOLE) == 2 - was_made
-            passed += is_fine
-            if not is_fine:
-                faults.append(f"request {request}: {[*reads, said, status]}")
-            places |= {int(refused[0][1])} if reads and refused[0] else set()
-            if not was_made:
-                break
-    # The format asks for memory before the first entry, and the map behind some, since it grows twice at least.
-    if len([it for it in places if it > 1]) < 2:
-        faults.append(f"the map was not refused memory, which ran out after {sorted(places)} bytes")
-    print("\n".join([*faults, f"{passed} passed, {len(faults)} failed"]))
-    return bool(faults)
-
-
-if __name__ == "__main__":
-    sys.exit(main())
+told, places = [], set()
+for printed, said, status in preloaded.each_request_refused([PROGRAM, TEST]):
+    *reads, result = re.findall(".+", printed.decode()) or [""]
+    is_refused, refused = b"refused\n" in said, [it for it in map(REFUSED.fullmatch, reads) if it]
+    is_fine = (result, status, len(reads), len(refused)) == ("test result: ok", 0, 2, is_refused)
+    is_fine = is_fine and reads.count("whole") == 2 - is_refused
+    told.append(None if is_fine else f"request {len(told) + 1}: {[*reads, result]}, status {status}")
+    places |= {int(it[1]) for it in refused if it[0] == reads[0]}
+# The format asks for memory before the first entry, and the map behind some, since it grows twice at least.
+if len([it for it in places if it > 1]) < 2:
+    told.append(f"the map was not refused memory, which ran out after {sorted(places)} bytes")
+tools.end(told)

@@ -9,8 +9,8 @@ proved=crates/halfmap/out/halfmap
 unproved=out/unproved/halfmap
 trap 'rm -f "$why"; exit 1' HUP INT TERM
 
-# fits PROGRAM STORED TOOL: whether the program is there, and neither its sources nor the tool have changed since the file STORED
-# was. The time of the change itself says that, since an older file that takes a newer one's place keeps its own time.
+# fits PROGRAM STORED TOOL: whether the program is there, and neither its sources nor the tool have changed since the file
+# STORED was. The time of the change itself says that, since an older file that takes a newer one's place keeps its own time.
 fits() {
     local made_from=(crates.txt crates/{half_store,halfbrown,halfmap}/{src,specs,proofs} "${@:3}")
     [ -x "$1" ] && [ -e "$2" ] && [ -z "$(find "${made_from[@]}" -cnewer "$2" -print -quit 2>&1)" ]
@@ -40,5 +40,5 @@ statuses=("${PIPESTATUS[@]}")
 status=${statuses[0]}
 [ "$status" -ne 0 ] || status=${statuses[1]}
 [ "${statuses[1]}" -eq 141 ] || [ "$status" -eq 0 ] ||
-    fails "halfmap ended with status $status (1: its input or its output was closed, the disk was full, or it got no memory at its start)"
+    fails "halfmap ended with status $status (1: its input or output was closed, the disk was full, or it got no memory)"
 rm "$why"

@@ -2,16 +2,16 @@
 """Searches the sources of what users take for what neither a proof nor a run shows: values that are forgotten, and
 work that is done beside the count.
 
-A rule is a sentence, a pattern that stands nowhere, and the files that are allowed to have it. Comments, clauses, `use` lines and
-tests are left out, and so is each plain call whose body is its counted call in `uncounted!`; white space is one space. Each line
-of QUOTED stands once, word for word; `..` is the rest of a signature.
+A rule is a sentence, a pattern that stands nowhere, and the files that are allowed to have it. Comments, clauses, `use` lines
+and tests are left out, and so is each plain call whose body is its counted call in `uncounted!`; white space is one space. Each
+line of QUOTED stands once, word for word; `..` is the rest of a signature.
 """
 
-import pathlib
 import re
-import sys
 
-TOP = pathlib.Path(__file__).resolve().parent.parent / "crates"
+import tools
+
+TOP = tools.TOP / "crates"
 CRATES = "half_store halfbrown half_set half_serde json_value half_uses word_count halfmap".split()
 
 RULES = (
@@ -68,22 +68,15 @@ def code_of(text):
     return re.sub(r"\s+", " ", text)
 
 
-def main():
-    paths = [path for crate in CRATES for path in sorted((TOP / crate / "src").rglob("*.rt"))]
-    above = {it: [*it.parent.glob("main.rt"), it.parent.with_suffix(".rt")][0] for it in paths if it.stem == "tests"}
-    paths = [it for it in paths if it not in above or "#[cfg(test)]\nmod tests;" not in above[it].read_text()]
-    codes = {path.relative_to(TOP).with_suffix("").as_posix(): code_of(path.read_text()) for path in paths}
-    quoted, problems = [it.split(" ", 1) for it in QUOTED.strip().split("\n")], []
-    for sentence, pattern, allowed in RULES:
-        found = {name: re.search(pattern, code) for name, code in codes.items() if name not in allowed}
-        places = [f"\n  {name} has {code.string[code.start() - 20 : code.end() + 20]}" for name, code in found.items() if code]
-        problems += [sentence + "".join(places)] * bool(places)
-    for name, text in quoted:
-        if len(re.findall(re.escape(text).replace(r"\.\.", "[^{}]*", 1), codes.get(name, ""))) != 1:
-            problems.append(f"{name} does not have this once, word for word: {text}")
-    print(*problems, f"{len(RULES) + len(quoted) - len(problems)} passed, {len(problems)} failed", sep="\n")
-    return bool(problems) or not paths
-
-
-if __name__ == "__main__":
-    sys.exit(main())
+paths = [path for crate in CRATES for path in sorted((TOP / crate / "src").rglob("*.rt"))]
+above = {it: [*it.parent.glob("main.rt"), it.parent.with_suffix(".rt")][0] for it in paths if it.stem == "tests"}
+paths = [it for it in paths if it not in above or "#[cfg(test)]\nmod tests;" not in above[it].read_text()]
+codes, told = {path.relative_to(TOP).with_suffix("").as_posix(): code_of(path.read_text()) for path in paths}, []
+for sentence, pattern, allowed in RULES:
+    found = {name: re.search(pattern, code) for name, code in codes.items() if name not in allowed}
+    places = [f"\n  {name} has {code.string[code.start() - 20 : code.end() + 20]}" for name, code in found.items() if code]
+    told.append(sentence + "".join(places) if places else None)
+for name, text in (it.split(" ", 1) for it in QUOTED.strip().split("\n")):
+    is_there = len(re.findall(re.escape(text).replace(r"\.\.", "[^{}]*", 1), codes.get(name, ""))) == 1
+    told.append(None if is_there else f"{name} does not have this once, word for word: {text}")
+tools.end(told)

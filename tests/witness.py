@@ -10,17 +10,17 @@ are taken out as long as it still differs, and what is left is printed with both
 """
 
 import functools
+import itertools
 import os
-import random
 import sys
-import tempfile
 import time
 from concurrent.futures import ProcessPoolExecutor
 
+import tools
 from model.basics import ALL
 from model.session import NO_LINE, answers
 from random_scripts import make_script
-from scripts import PROGRAM, agrees, compile_allocator, play
+from scripts import agrees, play
 
 SCRIPTS = 600
 # For this time a script that differs is made shorter, and this number of them is printed.
@@ -28,15 +28,11 @@ SECONDS_TO_SHORTEN = 20
 MOST_SHOWN = 3
 
 
-def difference(found, wanted):
-    """The index of the first line that differs, or None."""
-    for index, pair in enumerate(zip(found, wanted)):
-        if not agrees(*pair):
-            return index
-    return None if len(found) == len(wanted) else min(len(found), len(wanted))
+def differ(found, wanted):
+    return len(found) != len(wanted) or not all(map(agrees, found, wanted))
 
 
-def shortest(lines, refuse, player):
+def shortest(program, lines, refuse):
     """What is left of the lines when fewer and fewer at once are taken out, as long as they still differ."""
     end, size = time.monotonic() + SECONDS_TO_SHORTEN, len(lines)
     while size > 1:
@@ -44,53 +40,42 @@ def shortest(lines, refuse, player):
         while at < len(lines) and time.monotonic() < end:
             shorter = lines[:at] + lines[at + size :]
             wanted = answers(shorter, refuse)
-            if NO_LINE not in wanted and difference(player(shorter, refuse=refuse), wanted) is not None:
+            if NO_LINE not in wanted and differ(play(program, shorter, refuse), wanted):
                 lines = shorter
             else:
                 at += size
     return lines
 
 
-def report(lines, refuse, player):
-    """Prints a script, and both answers where they differ."""
-    found, wanted = player(lines, refuse=refuse), answers(lines, refuse)
-    for index in range(max(len(lines), len(found))):
-        line, has, wants = (it[index] if index < len(it) else "nothing" for it in (lines, found, wanted))
-        print(f"    {line}")
-        if not agrees(has, wants):
-            print(f"        the program: {has}\n        the model:   {wants}")
+def report(program, index, script):
+    """A script that differs, made short, and both answers where they do."""
+    of_each = "" if script.refuse == ALL else f", request {script.refuse[0]} refused"
+    lines, told = shortest(program, script.lines, script.refuse), [f"script {index}{of_each}, made short:"]
+    both = play(program, lines, script.refuse), answers(lines, script.refuse)
+    for line, found, wanted in itertools.zip_longest(lines, *both, fillvalue="nothing"):
+        told.append(f"    {line}")
+        if not agrees(found, wanted):
+            told.append(f"        the program: {found}\n        the model:   {wanted}")
+    return "\n".join(told)
 
 
-def script_of(seed, index):
-    return make_script(random.Random(f"{seed} {index}"), index)
-
-
-def try_script(seed, player, index):
-    """Whether a script differs."""
-    script = script_of(seed, index)
-    return difference(player(script.lines, refuse=script.refuse), script.wanted) is not None
+def is_other(program, seed, index):
+    """Whether the script of this index differs."""
+    script = make_script(seed, index)
+    return differ(play(program, script.lines, script.refuse), script.wanted)
 
 
 def main(count=SCRIPTS, seed=1):
-    if not PROGRAM.exists():
-        print(f"{PROGRAM} is not there: `rt run` in crates/witness proves and builds it")
-        return 0, 1
-    began = time.monotonic()
-    with tempfile.TemporaryDirectory() as folder, ProcessPoolExecutor(os.cpu_count()) as pool:
-        player = functools.partial(play, library=compile_allocator(folder))
-        tried = list(pool.map(functools.partial(try_script, seed, player), range(count)))
-        failed = [index for index, is_other in enumerate(tried) if is_other]
-        print(f"{count} scripts in {time.monotonic() - began:.1f} s; these differ: {failed or 'none'}")
-        # The first ones are long.
-        for index in failed[-MOST_SHOWN:]:
-            script = script_of(seed, index)
-            of_each = "" if script.refuse == ALL else f", request {script.refuse[0]} refused"
-            print(f"script {index} of seed {seed}{of_each}, made short:")
-            report(shortest(script.lines, script.refuse, player), script.refuse, player)
-    return len(tried) - len(failed), len(failed)
+    began, program = time.monotonic(), tools.program("witness")
+    with ProcessPoolExecutor(os.cpu_count()) as pool:
+        differing = [*pool.map(functools.partial(is_other, program, seed), range(int(count)))]
+    print(f"{count} scripts of seed {seed} in {time.monotonic() - began:.1f} s")
+    told = [f"script {index} differs" if it else None for index, it in enumerate(differing)]
+    # The first ones are long.
+    for index in [index for index, it in enumerate(told) if it][-MOST_SHOWN:]:
+        told[index] = report(program, index, make_script(seed, index))
+    tools.end(told)
 
 
 if __name__ == "__main__":
-    passed, failed = main(*map(int, sys.argv[1:2]), *sys.argv[2:])
-    print(f"{passed} passed, {failed} failed")
-    sys.exit(failed != 0 or passed == 0)
+    main(*sys.argv[1:])

@@ -145,8 +145,7 @@ BOTH_CALLS = {
     "drop": drop,
     "clone": clone,
     "swap": swap,
-    "same": lambda maps: text_of(maps.a.same_pairs(maps.b)),
-    "eq": lambda maps: text_of(maps.a.same_pairs(maps.b)),
+    **dict.fromkeys(("same", "eq"), lambda maps: text_of(maps.a.same_pairs(maps.b))),
     "same_as LIMIT RULE": lambda maps, *said: text_of(maps.a.same_pairs(other_map(maps, *said))),
     "same_from LIMIT RULE": lambda maps, *said: text_of(other_map(maps, *said).same_pairs(maps.a)),
 }

@@ -13,10 +13,6 @@ SMALL_BYTES = 8
 RULES = {"plain": lambda key: key.id, "zero": lambda key: 0, "top": lambda key: GREATEST}
 
 
-class BadLine(Exception):
-    """A line is no call."""
-
-
 class Refused(Exception):
     """A call is refused for this reason, `size` or `memory`."""
 

@@ -34,14 +34,11 @@ say too little:
 `or_default` does.
 """
 
-import dataclasses
-import re
-
 from model.all_pairs import BOTH_CALLS, OF_A_CALLS
-from model.basics import GREATEST, NOTHING, RULES, SMALL_BYTES, BadLine, Key
+from model.basics import GREATEST, NOTHING, SMALL_BYTES, Key
 from model.one_key import ONE_KEY_CALLS
 from model.runs import COMMANDS, run
-from model.walk import WALK_CALLS, steps_of
+from model.walk import WALK_CALLS
 
 # After `owning` values count their drops, after `unit` they have no size, and after `small` keys have 8 bytes.
 LIMITS = {"map": (0, 1, 2, 3, 4, 5, 8, 32, 64, 2**60, GREATEST), "owning": (0, 1, 2, 3, 5, 32, GREATEST)}
@@ -51,8 +48,6 @@ BYTES = {"map": (48, 8), "owning": (48, 48), "unit": (48, 0), "small": (SMALL_BY
 OTHER_LIMITS = (0, 5, GREATEST)
 PLAIN_MAKERS = ("new", "default", "with_hasher")
 MAKERS_FOR = ("with_capacity", "with_capacity_and_hasher", "vec_with_capacity")
-# A line with more items is no call.
-MOST_ITEMS = {"from_array ITEMS": 4, "hashmap ITEMS": 3}
 # Their text takes memory of the program's own.
 WITH_TEXT = ("debug_pretty", "debug_iter_pretty")
 OF_NUMBERS, WITH_NUMBERS = ("run COMMANDS", "entry KEY or_default"), ("map", "small")
@@ -84,97 +79,60 @@ def keys_in(said):
     return isinstance(said, Key) and said.mark is not None
 
 
-@dataclasses.dataclass
-class Call:
-    """A line: the pattern of its call, what its words say, and whether it may be refused memory."""
-
-    pattern: str
-    said: list
-    is_refused: bool
-
-    def values(self):
-        """How many values are made of what the words say."""
-        places = places_of(self.pattern)
-        return places.count("V") + (len(self.said[-1]) if places[-1] == "ITEMS" else 0)
-
-
-def look_up(table, word):
-    if word not in table:
-        raise BadLine
-    return table[word]
-
-
-def read_one_of(words):
-    """Reads one of these words, or of these numbers, so spelled."""
-    table = {str(word): word for word in words}
-    return lambda word: look_up(table, word)
-
-
-def read_number(word):
-    if not re.fullmatch("[0-9]{1,20}", word) or int(word) > GREATEST:
-        raise BadLine
-    return int(word)
+def values_in(pattern, said):
+    """How many values are made of what the words of a call say."""
+    places = places_of(pattern)
+    return places.count("V") + (len(said[-1]) if places[-1] == "ITEMS" else 0)
 
 
 def read_key(word):
-    return Key(*map(read_number, word.split("#", 1)))
+    return Key(*map(int, word.split("#")))
 
 
 def read_query(word):
-    return Key(read_number(word[1:]), None) if word.startswith("@") else read_key(word)
+    return Key(int(word[1:]), None) if word.startswith("@") else read_key(word)
 
 
 def read_which(word):
     """An ID, which no key has for `none`."""
-    return word if word == "any" else None if word == "none" else read_number(word)
+    return word if word == "any" else None if word == "none" else int(word)
 
 
 def read_maker(word):
     """The name, and the capacity that it is asked for."""
-    name, colon, capacity = word.partition(":")
-    return read_one_of(MAKERS_FOR if colon else PLAIN_MAKERS)(name), read_number(capacity) if colon else 0
+    name, _, capacity = word.partition(":")
+    return name, int(capacity or 0)
 
 
-PLACES = dict.fromkeys(("V", "N", "M", "SIZE", "HASH"), read_number)
-PLACES |= {"KEY": read_key, "QUERY": read_query, "WHICH": read_which, "MAKER": read_maker}
-PLACES |= {"LIMIT": read_one_of(OTHER_LIMITS), "RULE": read_one_of(RULES)}
+PLACES = dict.fromkeys(("V", "N", "M", "SIZE", "HASH", "LIMIT"), int) | {"KEY": read_key, "QUERY": read_query}
+PLACES |= {"WHICH": read_which, "MAKER": read_maker, "RULE": str}
 
 
 def read_places(places, words):
     """What the words say in the place of the words in capitals."""
-    if len(words) != len(places):
-        raise BadLine
-    return [PLACES[place](word) for place, word in zip(places, words) if place in PLACES]
+    return [PLACES[place](word) for place, word in zip(places, words, strict=True) if place in PLACES]
 
 
-def read_items(pattern, words):
+def read_items(words):
     """The pairs of KEY V KEY V .."""
-    if len(words) % 2 != 0 or len(words) // 2 > MOST_ITEMS.get(pattern, len(words)):
-        raise BadLine
-    return [(read_key(key), read_number(value)) for key, value in zip(words[::2], words[1::2])]
+    return [(read_key(key), int(value)) for key, value in zip(words[::2], words[1::2], strict=True)]
 
 
-def read_commands(_, words):
+def read_commands(words):
     """The commands, each by its pattern and what it says."""
     commands = []
     while words:
-        pattern = look_up(COMMAND_PATTERNS, words[0])
-        count = len(places_of(pattern))
-        commands.append((pattern, read_places(places_of(pattern), words[:count])))
-        words = words[count:]
+        pattern = COMMAND_PATTERNS[words[0]]
+        places = places_of(pattern)
+        commands.append((pattern, read_places(places, words[: len(places)])))
+        words = words[len(places) :]
     return commands
 
 
-def read_steps(pattern, words):
+def read_steps(words):
     """The steps, each by its pattern and what it says."""
-    steps = []
-    for word in words:
-        name, colon, number = word.partition(":")
-        step = f"{name}:N" if colon else name
-        if step not in steps_of(places_of(pattern)[1]) or (steps and steps[-1][0].startswith("each")):
-            raise BadLine
-        steps.append((step, [read_number(number)] if colon else []))
-    return steps
+    steps = [word.partition(":") for word in words]
+    return [(f"{name}:N", [int(number)]) if colon else (name, []) for name, colon, number in steps]
 
 
 def no_value(place, said):
@@ -187,24 +145,22 @@ REST = {"ITEMS": read_items, "COMMANDS": read_commands, "STEPS": read_steps}
 
 
 def read_call(line, kind):
-    """The call of a line, which `refused` may stand before, on maps of this kind."""
+    """The pattern of a line's call, which `refused` may stand before, and what it says, on maps of this kind."""
     words = line.removeprefix("refused ").split(" ")
-    pattern = look_up(PATTERNS, name_of(words))
-    if kind not in WITH_NUMBERS and pattern in OF_NUMBERS:
-        raise BadLine
+    pattern = PATTERNS[name_of(words)]
     *places, last = places_of(pattern)
     if last in REST:
-        said = read_places(places, words[: len(places)]) + [REST[last](pattern, words[len(places) :])]
+        said = read_places(places, words[: len(places)]) + [REST[last](words[len(places) :])]
     else:
         said = read_places([*places, last], words)
     if kind == "unit":
         said = [no_value(place, it) for place, it in zip(filter(str.isupper, [*places, last]), said)]
-    return Call(pattern, said, line.startswith("refused "))
+    return pattern, said
 
 
 def read_first(line):
     """The kind, the limit, the rule and the capacity."""
-    words = line.split(" ")
-    kind, limit, rule, *capacity = words if len(words) in (3, 4) else [""] * 3
-    limit = read_one_of(look_up(LIMITS, kind))(limit)
-    return kind, limit, PLACES["RULE"](rule), read_number(capacity[0]) if capacity else 0
+    kind, limit, rule, *capacity = line.split(" ")
+    if int(limit) not in LIMITS[kind]:
+        raise ValueError
+    return kind, int(limit), rule, int(*capacity)

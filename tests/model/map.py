@@ -35,16 +35,15 @@ class Map:
         return f"{'vec' if self.is_vec else 'map'} {len(self.pairs)} {self.capacity}"
 
     def state(self):
-        """The form, as the random scripts tell forms apart."""
+        """The form, as the random scripts tell forms apart, or that there are many pairs."""
+        if 20 <= len(self.pairs) <= 70:
+            return MANY
         if self.has_gone_back:
             return "went back"
         if self.is_vec:
             full = "full " if len(self.pairs) == self.limit else "tight " if len(self.pairs) == self.capacity else ""
             return f"{full}vec"
         return "full table" if len(self.pairs) == self.capacity else "table"
-
-    def states(self):
-        return [self.state()] + [MANY] * (20 <= len(self.pairs) <= 70)
 
     def anew(self):
         """A map that `with_hasher` makes with the same limit and rule."""

@@ -1,20 +1,20 @@
 """A script on the model, line by line."""
 
-from model.basics import ALL, GREATEST, NONE, BadLine, Pair, Refused, Work
-from model.lines import BYTES, CALLS, CALLS_ON_A, WITH_TEXT, keys_in, read_call, read_first
+from model.basics import ALL, GREATEST, NONE, Pair, Refused, Work
+from model.lines import BYTES, CALLS, CALLS_ON_A, WITH_TEXT, keys_in, read_call, read_first, values_in
 from model.map import Map
 
-# What the model says of a line that is none, at which the program ends.
+# What the model says of a line that it cannot read, at which the program ends.
 NO_LINE = "no line"
 
 
-def refusal_of(call, why):
+def refusal_of(pattern, said, why):
     """What a refused call is answered, with what it hands back."""
-    if call.pattern.startswith("insert"):
-        return f"refused {why} {Pair(*call.said)}"
-    if call.pattern.startswith("entry"):
-        return f"refused {why} {call.said[0]}"
-    return "refused" if call.pattern in ("extend ITEMS", "extend_by ITEMS", "collect ITEMS") else f"refused {why}"
+    if pattern.startswith("insert"):
+        return f"refused {why} {Pair(*said)}"
+    if pattern.startswith("entry"):
+        return f"refused {why} {said[0]}"
+    return "refused" if pattern in ("extend ITEMS", "extend_by ITEMS", "collect ITEMS") else f"refused {why}"
 
 
 class Session:
@@ -26,7 +26,7 @@ class Session:
     def answer(self, line):
         try:
             return self.answer_call(line) if self.a else self.answer_first(line)
-        except BadLine:
+        except (LookupError, ValueError):
             return NO_LINE
 
     def answer_first(self, line):
@@ -42,19 +42,20 @@ class Session:
         return len(self.a.pairs) + len(self.b.pairs)
 
     def answer_call(self, line):
-        call = read_call(line, self.kind)
-        work = self.a.work = self.b.work = Work(self.refuse if call.is_refused else NONE, *BYTES[self.kind])
+        pattern, said = read_call(line, self.kind)
+        refused = self.refuse if line.startswith("refused ") else NONE
+        work = self.a.work = self.b.work = Work(refused, *BYTES[self.kind])
         held = self.held()
         try:
-            answer = CALLS[call.pattern](self.a if call.pattern in CALLS_ON_A else self, *call.said)
+            answer = CALLS[pattern](self.a if pattern in CALLS_ON_A else self, *said)
             answer = "done" if answer is None else str(answer)
         except Refused as why:
-            answer = refusal_of(call, why)
+            answer = refusal_of(pattern, said, why)
         gone = held + work.cloned - self.held()
-        dropped = f"dropped {keys_in(call.said) + gone} {call.values() + gone if self.kind == 'owning' else 0}"
-        called = f" | called {work.called}" if call.pattern.endswith(" *") else ""
+        dropped = f"dropped {keys_in(said) + gone} {values_in(pattern, said) + gone if self.kind == 'owning' else 0}"
+        called = f" | called {work.called}" if pattern.endswith(" *") else ""
         memory = f"requests {work.requests} | peak {work.peak_bytes()}"
-        if call.pattern in WITH_TEXT:
+        if pattern in WITH_TEXT:
             memory = f"requests 0..1000 | peak 0..{GREATEST}"
         return f"{answer} | {work} | {self.a} | {dropped}{called} | {memory}"
 

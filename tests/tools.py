@@ -1,0 +1,48 @@
+"""What the tests share: programs, copies of the sources, and how a test ends."""
+
+import os
+import pathlib
+import re
+import shutil
+import sys
+
+TESTS = pathlib.Path(__file__).resolve().parent
+TOP = TESTS.parent
+
+
+def program(name):
+    """Where a program stands: where the variable of its name says, or else where it is proved."""
+    path = pathlib.Path(os.environ.get(name.upper()) or TOP / f"crates/{name}/out/{name}")
+    if not path.exists():
+        end([f"{path} is not there: `rt run` in crates/{name} proves and builds it"])
+    return path
+
+
+def crates_of(*names):
+    """All crates, or those that these are made of, by their lines in crates.txt: the lowest first."""
+    lines = dict(re.findall(r"^(\w+):(.*)$", (TOP / "crates.txt").read_text(), re.M))
+    found = set(names or lines)
+    while below := {it for name in found & {*lines} for it in lines[name].split()} - found:
+        found |= below
+    return {name: lines[name] for name in lines if name in found}
+
+
+def copy_sources(folder, crates, proved=False):
+    """Copies the tests and crates; with `proved` also the proofs, and links of out/, which rt replaces and never writes to."""
+    shutil.copytree(TESTS, folder / "tests", ignore=shutil.ignore_patterns("__pycache__"))
+    for name in ("HANDLES", "Makefile"):
+        shutil.copy(TOP / name, folder)
+    (folder / "crates.txt").write_text("".join(f"{name}:{below}\n" for name, below in crates.items()))
+    for name in crates:
+        crate, copy = TOP / "crates" / name, folder / "crates" / name
+        shutil.copytree(crate, copy, ignore=lambda at, _: {"out", "" if proved else "proofs"} if at == str(crate) else ())
+        if proved and (crate / "out").is_dir():
+            shutil.copytree(crate / "out", copy / "out", copy_function=os.link)
+    return folder
+
+
+def end(told):
+    """Ends a test whose checks told what is wrong, or None: prints that, and as the last line "N passed, M failed"."""
+    faults = [it for it in told if it]
+    print(*faults, f"{len(told) - len(faults)} passed, {len(faults)} failed", sep="\n")
+    sys.exit(bool(faults) or not told)
