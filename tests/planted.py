@@ -41,7 +41,7 @@ def build(folder, name):
     program = folder / name
     built = subprocess.run([folder / "tests/build_unproved.sh", name, program], capture_output=True, text=True)
     if not program.exists():
-        raise ValueError(f"it does not compile: {(built.stdout + built.stderr).strip()[-200:]}")
+        raise ValueError(f"it does not compile, status {built.returncode}: {(built.stdout + built.stderr).strip()[-200:]}")
     return program
 
 

@@ -7,14 +7,17 @@ import itertools
 import random
 
 from model.basics import ALL, GREATEST, MANY, MOST_PAIRS, RULES, Key
-from model.lines import CALLS, COMMANDS, LIMITS, MAKERS_FOR, OF_NUMBERS, OTHER_LIMITS, PLAIN_MAKERS
-from model.lines import WITH_NUMBERS, WITH_TEXT, places_of
+from model.lines import CALLS, COMMANDS, LIMITS, WITH_TEXT, places_of
 from model.session import Session
 from model.walk import steps_of
 
 LINES = 200
 # A tight vector has room for no pair, and fewer pairs than its limit; a full one has as many. One that went back was a table.
 STATES = ("vec", "tight vec", "full vec", "table", "full table", "went back", MANY)
+PLAIN_MAKERS = ("new", "default", "with_hasher")
+MAKERS_FOR = ("with_capacity", "with_capacity_and_hasher", "vec_with_capacity")
+# Calls that need numbers as values, and the maps that have these.
+OF_NUMBERS, WITH_NUMBERS = ("run COMMANDS", "entry KEY or_default"), ("map", "small")
 COMPARING = ("same", "eq", "same_as LIMIT RULE", "same_from LIMIT RULE")
 # Some limits, rules and states are chosen more often than others.
 OFTEN = (5, 5, 2, 3, 20, 32, 32, 64)
@@ -116,7 +119,7 @@ class Script:
             "SIZE": self.size,
             "HASH": lambda: choice((*[RULES[self.rule](Key(id_))] * 6, 0, 5, GREATEST)),
             "WHICH": lambda: self.which(id_),
-            "LIMIT": lambda: choice(OTHER_LIMITS),
+            "LIMIT": lambda: choice((0, 5, GREATEST)),
             "RULE": lambda: choice(tuple(RULES)),
             "MAKER": lambda: choice((*PLAIN_MAKERS, *(f"{maker}:{self.size()}" for maker in MAKERS_FOR))),
             "ITEMS": lambda: self.items(3 if pattern.startswith("hashmap") else 4),

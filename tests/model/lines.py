@@ -45,12 +45,8 @@ LIMITS = {"map": (0, 1, 2, 3, 4, 5, 8, 32, 64, 2**60, GREATEST), "owning": (0, 1
 LIMITS |= {"unit": (20,), "small": (3, 32, 64)}
 # The bytes of a key and of a value.
 BYTES = {"map": (48, 8), "owning": (48, 48), "unit": (48, 0), "small": (SMALL_BYTES, 8)}
-OTHER_LIMITS = (0, 5, GREATEST)
-PLAIN_MAKERS = ("new", "default", "with_hasher")
-MAKERS_FOR = ("with_capacity", "with_capacity_and_hasher", "vec_with_capacity")
 # Their text takes memory of the program's own.
 WITH_TEXT = ("debug_pretty", "debug_iter_pretty")
-OF_NUMBERS, WITH_NUMBERS = ("run COMMANDS", "entry KEY or_default"), ("map", "small")
 # Each is handed `a`, or the session, which has both maps, and what the line says. A pattern with `*` hands in a closure.
 CALLS_ON_A = ONE_KEY_CALLS | OF_A_CALLS | {"run COMMANDS": run}
 CALLS = CALLS_ON_A | BOTH_CALLS | WALK_CALLS
