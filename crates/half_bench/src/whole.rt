@@ -4,6 +4,7 @@ use crate::maps::Ours;
 use crate::unknown;
 use half_store::Tally;
 use halfbrown::HashMap;
+use halfbrown::run::{Command, run};
 use std::alloc::Global;
 use std::{io, mem};
 
@@ -41,9 +42,22 @@ fn move_pairs<K: Key>(call: &str, map: &mut Ours<K>, alloc: Global) -> io::Resul
         }
         "pop" => return Ok(popped(map)),
         "shift_remove" => return Ok(map.shift_remove(&K::of_number(alloc, 0)?).unwrap_or(1)),
+        "run" => return run_insertions(map, alloc),
         _ => return Err(unknown()),
     }
     Ok(map.len() as u64)
+}
+
+// Inserts all pairs into a map that is left empty, by a run, and returns how many replies there are.
+fn run_insertions<K: Key>(map: &mut Ours<K>, alloc: Global) -> io::Result<u64> {
+    let mut commands = Vec::new(alloc);
+    for (key, value) in taken(map, alloc) {
+        commands.push(Command::Insert(key, value))?;
+    }
+    match run(alloc, map, commands) {
+        Ok(replies) => Ok(replies.len() as u64),
+        Err(_) => Err(io::Error::other("the replies got no memory")),
+    }
 }
 
 // The pairs of a map, which is left empty.
