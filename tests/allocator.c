@@ -1,16 +1,16 @@
 // Counts the requests for memory of a program that it is preloaded into, refuses them, and says what was never given back.
 //
-// The program marks each call by a write of no bytes to standard output, right before it, and one that may be refused
-// memory by two. From the mark to the end of the line that it writes then, its requests are counted, and the line gets
-// two fields more, ` | requests N | peak BYTES`: how many bytes more than before the call were granted at a time. A block
-// that gets another size counts twice meanwhile. Of the requests of a call that was marked twice those from REFUSE_FROM to
-// REFUSE_TO, counted from 1 in the call, return NULL.
+// The program marks each call by a write of no bytes to standard output, right before it, and one that may be refused memory by
+// two. From the mark to the end of the line that it writes then, its requests are counted. The line gets two fields more,
+// ` | requests N | peak BYTES`: the peak is how many bytes more than before the call were granted at a time. A block that gets
+// another size counts twice meanwhile. Of the requests of a call that was marked twice those from REFUSE_FROM to REFUSE_TO,
+// counted from 1 in the call, return NULL.
 //
-// With REFUSE_UNMARKED nothing is marked: all requests of the program are counted, from its start, those from
-// REFUSE_FROM to REFUSE_TO return NULL, and a line on standard error tells of each.
+// With REFUSE_UNMARKED nothing is marked: all requests of the program are counted, from its start. Those from REFUSE_FROM to
+// REFUSE_TO return NULL, and a line on standard error tells of each.
 //
-// A request is a `malloc`, a `calloc`, or a `realloc` to a size above 0. Where the program ends and has not freed all blocks
-// that it was granted, the last line of its output is `kept N blocks`.
+// A request is a `malloc`, a `calloc`, or a `realloc` to a size above 0. If the program ends and has not freed all blocks that
+// it was granted, the last line of its output is `kept N blocks`.
 #include <errno.h>
 #include <stdio.h>
 #include <stdlib.h>

@@ -1,8 +1,8 @@
 #!/usr/bin/env python3
-"""What `make bench` runs: proves and builds half_bench, where something has changed, prints all figures, of which docs/SPEED.md
-has a part, and draws docs/speed.svg where it measured all of them.
+"""What `make bench` runs. It proves and builds half_bench, if something has changed, and prints all figures; docs/SPEED.md has
+a part of them. If it measured all, it draws docs/speed.svg.
 
-    tests/bench.py [ROUNDS] [WORD..]                  9 rounds where none are given
+    tests/bench.py [ROUNDS] [WORD..]                  9 rounds if none are given
     tests/bench.py --against DIR [ROUNDS] [WORD..]    half_bench of this tree and of one built there, 3 rounds in 6 orders each
 
 Words pick rows of times: operations, `u64`, `String` and sizes; `memory` and `reads` those tables.
@@ -37,7 +37,7 @@ PAIRS = 1_000_000
 FULL, BUCKETS = 3 << 16, picture.BUCKETS
 
 Place = collections.namedtuple("Place", "operation keys pairs")
-# In so many orders `--against` links the functions of each program, since the order alone changes a time by .8 to 1.25.
+# In how many orders `--against` links the functions of each program: the order by itself changes a time by .8 to 1.25.
 ORDERS = 6
 # Times of this map, and of std's, by place, and bytes by keys and pairs.
 DRAWN = {}
@@ -108,7 +108,7 @@ def shuffled(program, order, folder):
     kit, links = pathlib.Path(shutil.which("rt")).resolve().parent.parent, tempfile.mkdtemp(dir=folder)
     shutil.copytree(kit / "toolchain", links, symlinks=True, copy_function=os.symlink, dirs_exist_ok=True)
     lld, output = pathlib.Path(links, "bin/ld.lld"), pathlib.Path(links, "program")
-    lld.unlink()  # else the file that it leads to would be written
+    lld.unlink()  # otherwise the file that it leads to would be written
     lld.write_text(f'#!/bin/sh\nexec "{kit}/toolchain/bin/ld.lld" "$@" "--shuffle-sections=.text*={order}"\n')
     lld.chmod(0o755)
     link = [kit / "bin/rattle-link", "--target", "x86_64-unknown-linux-gnu", "--toolchain", links, "-o", output]
@@ -154,7 +154,7 @@ def peak_bytes(program, *words):
 
 
 def memory_rows(program):
-    """Bytes a pair of as many maps as hold a million pairs. One map alone would be lost in the pages of the program."""
+    """Bytes a pair of as many maps as hold a million pairs. A single map would be lost in the pages of the program."""
     empty = peak_bytes(program, "u64", "std", 0, 0)
     for keys, size in itertools.product(KEYS, SIZES):
         print(f"memory {keys} {size}", file=sys.stderr)

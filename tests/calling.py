@@ -13,8 +13,8 @@ CRATE = pathlib.Path(__file__).resolve().parent.parent / "crates/halfbrown"
 # No clause or field of such a name is printed, and no starred clause.
 LEFT_OUT = re.compile(r"(?:(?:requires|ensures) ?)?(?:\*|(?:cost|keeps|runs|same_map|small|valid|values_run)\b)")
 # Such a word is not printed: a line by hand says in short what it says, or no caller has to know it.
-NOT_OPENED = """ArePairClones HashesAlike InsertsAll InsertsAt IsDefaultBuilder ModifiesEntry RefusedCollectIter
-    RefusedExtendIter ShiftRemoves State""".split()
+NOT_OPENED = """ArePairClones HashesAlike InsertsAll PutsOrHandsBackWithIndex IsDefaultBuilder CollectIterRefused
+    InsertsUntilRefused SameEntry ShiftRemoves State""".split()
 WORD = re.compile(r"^( *)(?:pub record|pub data|abbrev pub) ([A-Z]\w*)(.*)\n((?:\1 +\S.*\n|\1\2 .*\n)*)", re.M)
 CALL = re.compile(r"^fn ([\w:]+).*\n(?:(?!fn |```).*\n)*", re.M)
 LIST = re.compile(r"(^## (Words|All calls)\n(?:[^`]|`(?!``))*```text\n)([^`]*)", re.M)

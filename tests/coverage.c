@@ -1,5 +1,6 @@
 // Linked into a program whose blocks tests/coverage.py has marked. A block that is entered stores 1 at its place in `entered`,
-// which lies in the file ENTERED: so runs add up, also those that are killed, at the same time, and with no environment.
+// which lies in the file ENTERED. So runs add up, even those that are killed, that run at the same time, or that have no
+// environment.
 #include <fcntl.h>
 #include <sys/mman.h>
 #include <unistd.h>

@@ -1,17 +1,17 @@
 #!/usr/bin/env python3
 """What the documentation names is there, and what it shows is proved or run. The last line is "N passed, M failed".
 
-- In the pages (*.md) a link leads to a file, and to a heading if it names one, but not out of the folder of a crate, which
-  users copy. A path in backticks leads to a file or a folder, from anywhere in the tree: `map/find.rt` is in
+- In the pages (*.md) a link leads to a file, and to a heading if it names one. Users copy the folders of crates, so no link
+  leads out of them. A path in backticks leads to a file or a folder, from anywhere in the tree: `map/find.rt` is in
   crates/halfbrown/src. A name in backticks such as `counting::hash_one` is that of an item in a module, of a crate or of std.
 - The folders of crates that users copy (COPIED) have the licences of the top, and a page with the line of crates.txt.
-- README's first example stands in half_examples, where it is proved with its clause, and halfmap, the program HALFMAP, answers
-  its lines as it says.
-- The imports of CALLING, USING and PROOFS stand in the crates, their fenced code in callers, which are proved, other code there
-  or in examples, and the lemmas in their modules. The caller that CALLING begins with compiles with its imports.
+- README's first example stands in half_examples, where it is proved with its clause. halfmap, the program HALFMAP, answers its
+  lines as the page says.
+- The imports of CALLING, USING and PROOFS stand in the crates, and the lemmas in their modules. Fenced code stands in callers,
+  which are proved, and other code there or in examples. The caller that CALLING begins with compiles with its imports.
 - CALLING has its clauses, words and list of calls as they stand in the sources (calling.py). `tests/documentation.py --write`
   prints them there anew.
-- docs/speed.svg shows the figures of SPEED, and docs/tail.svg those of TABLE, of which some are computed.
+- docs/speed.svg shows the figures of SPEED, and docs/tail.svg those of TABLE. Some of these are computed.
 - The examples in the documentation of the map and of the set run, with nothing proved. Those of a page, `//!`, stand before
   each that follows in the file, and those of the crate's page before all.
 """
@@ -26,8 +26,9 @@ import tempfile
 
 import calling
 import picture
+import tools
+from tools import TOP
 
-TOP = pathlib.Path(__file__).resolve().parent.parent
 STD = pathlib.Path(shutil.which("rt")).resolve().parent.parent / "rattle/std/src"
 HALFMAP = os.environ.get("HALFMAP") or TOP / "out/unproved/halfmap"
 CODE = re.compile(r"^```.*?^```|^    .*?$", re.M | re.S)
@@ -121,7 +122,7 @@ def lemmas(page):
 
 def copied():
     """What stands in the folder of each crate that users copy."""
-    lines = dict(it.split(":") for it in (TOP / "crates.txt").read_text().splitlines() if it[0] != "#")
+    lines = tools.crates_of()
     for name in COPIED:
         page = TOP / f"crates/{name}/README.md"
         yield f"the page of {name}", page.exists() and f"\n    {name}:{lines[name]}\n" in page.read_text()
@@ -150,10 +151,7 @@ def examples():
         for path in sources.rglob("*.rt"):
             files["_".join([name, *path.relative_to(sources).parts])[:-3]] = tests_of(path, uses, before)[0]
     with tempfile.TemporaryDirectory() as folder:
-        crate = pathlib.Path(folder, "crates/examples")
-        shutil.copytree(TOP / "crates", crate.parent, ignore=shutil.ignore_patterns("proofs", "out"))
-        (crate.parent.parent / "crates.txt").write_text((TOP / "crates.txt").read_text() + f"examples: {' '.join(USES)}\n")
-        (crate / "src").mkdir(parents=True)
+        crate = tools.crate_above(pathlib.Path(folder), "examples", *USES)
         files["calling"] = FENCED.search(CALLING.read_text())[2]
         files["lib"] = "#![tactic(auto)]\n" + "".join(f"#[cfg(test)]\nmod {name};\n" for name in files)
         for name, tests in files.items():
@@ -177,6 +175,4 @@ claims += [*readme((TOP / "README.md").read_text()), *calling.claims(CALLING.rea
 claims += [(path.name, drawn == path.read_text()) for path, drawn in picture.pictures()]
 table = (TOP / "docs/TABLE.md").read_text()
 claims += [(row, f"{row}\n" in table) for load, _ in picture.LOADS.values() for row in picture.tail_rows(load)]
-failed = [what for what, stands in claims if not stands]
-print(*failed, f"{len(claims) - len(failed)} passed, {len(failed)} failed", sep="\n")
-sys.exit(bool(failed))
+tools.end([None if stands else what for what, stands in claims])

@@ -1,19 +1,20 @@
 #!/usr/bin/env python3
-"""Tries the edits of tests/edits: small changes of the code, each of which puts one fault in.
+"""Tries the edits of tests/edits: small changes of the code, and each puts one fault in.
 
     tests/edits.py [WORD..]    tries all of them, or those whose CRATE/PATH or name has one of the words
 
 tests/edits/CRATE/PATH.edits has those of crates/CRATE/src/PATH.rt, each below a line `edit: NAME` that says its fault. The text
-of a line `old: TEXT` stands once in that file, and that of `new: TEXT` takes its place; `file: PATH` above them names another
+of a line `old: TEXT` stands once in that file, and that of `new: TEXT` takes its place. `file: PATH` above them names another
 file of the crate. The prover has to refuse the edit: a contract that lets a fault through is too weak. With a line
-`refused by: CLAUSE` it has to be a goal of this clause that is not proved; where a call has one clause, the line names the goal
-of a return. Where no contract can, `found by: ..` names what finds it, by the head of planted.py, and a comment says why.
+`refused by: CLAUSE` it has to be a goal of this clause that is not proved. If a call has one clause, the line names the goal of
+a return. If no contract can refuse the edit, `found by: ..` names what finds it, by the head of planted.py, and a comment says
+why.
 
-The crates are proved first, where out/ lacks that. Then several checks run at a time, each in a copy of the sources with links
-of out/. A check tries several edits that change different functions: a caller is proved by the contracts of what it calls, so
-that no edit shows in another's function. An edit passes where the prover names a goal of a function that it changes. One that
-shows in none is tried again, alone, and may also show in a caller. An edit fails where it cannot be applied, where the prover
-is not reached, where only a proof lost a name, and where all is proved. The last line is "N passed, M failed".
+The crates are proved first, if out/ lacks that. Then several checks run at a time, each in a copy of the sources with links of
+out/. A check tries several edits that change different functions: a caller is proved by the contracts of what it calls, so that
+no edit shows in another's function. An edit passes if the prover names a goal of a function that it changes. One that shows in
+none is tried again, by itself, and may also show in a caller. An edit fails if it cannot be applied, if the prover is not
+reached, if only a proof lost a name, or if all is proved. The last line is "N passed, M failed".
 """
 
 import os
@@ -66,8 +67,8 @@ class Edit:
         return f"{self.place} {self.name}"
 
     def apply(self, texts, crate):
-        """Puts the edit into these texts by their file, which are read where they are not there yet, and returns each changed
-        place as its file and line. Raises ValueError, and changes nothing, where it cannot be applied."""
+        """Puts the edit into these texts by their file, which are read if they are not there yet, and returns each changed
+        place as its file and line. If it cannot be applied, it raises ValueError, and changes nothing."""
         changed, places = {}, []
         for file, old, new in self.changes:
             file = crate / file
@@ -83,7 +84,7 @@ class Edit:
         return places
 
     def functions(self, crate, names):
-        """The function around each place that it changes, or None where it changes something else."""
+        """The function around each place that it changes, or None if it changes what is no function."""
         texts = {}
         return [function_at(file, texts[file].split("\n"), at, names) for file, at in self.apply(texts, crate)]
 
@@ -101,8 +102,8 @@ class Function:
 
 
 def names_above(header, file):
-    """What a check prints before the name of a function of an impl with this header, or of the file where it is empty or not
-    understood: patterns of which the first that fits is meant."""
+    """What a check prints before the name of a function of an impl with this header, or of the file if it is empty or not
+    understood. These are patterns, and the first that fits is meant."""
     parts = IMPL.fullmatch(header)
     if not parts:
         return [file.parent.parent.name if file.stem in ("lib", "main") else file.stem]
@@ -114,7 +115,7 @@ def names_above(header, file):
 
 
 def function_at(file, lines, at, names):
-    """The function around this line of the file; None where there is none, or where more than one of these names may be its."""
+    """The function around this line of the file; None if there is none, or if more than one of these names may be its."""
     tops = [number for number in range(at + 1) if FUNCTION.match(lines[number])]
     if not tops:
         return None
@@ -133,7 +134,7 @@ def function_at(file, lines, at, names):
 
 
 class Check:
-    """What a check of these functions says, or of the whole crate where there are none."""
+    """What a check of these functions says, or of the whole crate if there are none."""
 
     def __init__(self, crate, functions=()):
         command = ["rt", "check", "--jobs", "1", *(f"--only={it.name}" for it in functions)]
@@ -149,8 +150,8 @@ class Check:
                 self.unread = self.unread or line
 
     def goal_of(self, functions, clause):
-        """What names a goal of this clause, or of any where it is empty, that is not proved, of one of these functions, or of
-        any where they are None; or None."""
+        """What names a goal that is not proved, or None. The goal is of this clause, or of any if it is empty, and of one of
+        these functions, or of any if they are None."""
         is_of = re.compile(rf"`[^`]*{re.escape(clause)}`").search if clause else bool
         for line, path, number, _, text in self.told:
             # That a function calls one that is not proved is no goal of its own.
@@ -162,7 +163,7 @@ class Check:
 
 
 def attempt(edits, crate, names):
-    """Whether each of these edits passes in this copy of their crate, and why; None for one that has to be tried alone."""
+    """Whether each of these edits passes in this copy of their crate, and why; None for one that has to be tried by itself."""
     functions, texts = [[it for it in edit.functions(crate, names) if it] for edit in edits], {}
     for edit in edits:
         edit.apply(texts, crate)
@@ -223,7 +224,7 @@ def in_batches(edits, crate, names):
 
 
 def prove(crate):
-    """Proves a crate where out/ lacks that, builds what the crates above it read, and returns the names of its functions."""
+    """Proves a crate if out/ lacks that, builds what the crates above it read, and returns the names of its functions."""
     folder, began = tools.TOP / "crates" / crate, time.monotonic()
     if subprocess.run([tools.TESTS / "prove.sh", crate, "check" if (folder / "src/main.rt").is_file() else "lib"]).returncode:
         sys.exit("0 passed, 1 failed")

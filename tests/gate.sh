@@ -1,12 +1,12 @@
 #!/bin/bash
-# What `make test` and `.ci/run` run, part by part: it fails where a part does, and its last line adds up theirs.
+# What `make test` and `.ci/run` run, part by part. It fails if a part does, and its last line adds up theirs.
 #
-#   tests/gate.sh            proves what users run, and builds the rest unproved beside that
+#   tests/gate.sh            proves what users run, and meanwhile builds the rest unproved
 #   tests/gate.sh proved     takes what `rt ci` has proved and built
 #   tests/gate.sh covered    builds all unproved, and says which blocks no test enters
 #   tests/gate.sh all        proves all from nothing, counts the instructions of calls, does the last two, and tries every edit
 #
-# As many parts run at once as there are processors, at most four. Each has its line when it ends, so that their order differs.
+# As many parts run at once as there are processors, at most four. Each has its line when it ends, so their order differs.
 set -uo pipefail
 missing=0
 for it in rt python3 cc; do
@@ -21,12 +21,13 @@ folder=$(mktemp -d) || exit 1
 waiting=() passed=0 failed=0
 declare -A first=() command=() running=() began=() ended=()
 
-# below PROCESS..: these and all that they started. ^C reaches this script alone, since a shell keeps it from what runs beside.
+# below PROCESS..: these and all that they started. ^C reaches only this script, since a shell keeps it from what runs in the
+# background.
 below() { local it; for it; do echo "$it"; below $(ps -o pid= --ppid "$it"); done; }
 trap 'kill $(below $(jobs -p)) 2>/dev/null; rm -rf "$folder"' EXIT
 
-# part MODES NAME FIRST COMMAND..: a part of the modes with these first letters, which starts when the part FIRST has ended, if
-# there is one of this name.
+# part MODES NAME FIRST COMMAND..: a part of the modes with these first letters. If there is a part FIRST, it starts when that
+# has ended.
 part() {
     [[ $1 = *${mode:0:1}* ]] || return
     waiting+=("$2") first[$2]=$3 command[$2]=${*:4}
@@ -35,7 +36,7 @@ part() {
 # Of all that is long each line is shown as it comes.
 show() { if [ "$mode" = all ]; then sed -u "s/^/$1: /"; else cat >/dev/null; fi; }
 
-# start NAME: runs a part. Others give way to the proofs, which are long where something has changed, and to the longest build.
+# start NAME: runs a part. Others give way to the proofs, which are long if something has changed, and to the longest build.
 start() {
     began[$1]=$SECONDS
     (
@@ -45,8 +46,8 @@ start() {
     running[$!]=$1
 }
 
-# finish NAME STATUS: adds up a part. Its last line is "N passed, M failed". In `all` each has one; where another has none, or
-# was killed, its status counts.
+# finish NAME STATUS: adds up a part. Its last line is "N passed, M failed". In `all` each has one; if another has none, or was
+# killed, its status counts.
 finish() {
     local log="$folder/$1" counts
     counts=$(tail -n 1 "$log" | sed -n -E 's/^([0-9]+) passed, ([0-9]+) failed$/\1 \2/p')
@@ -59,7 +60,7 @@ finish() {
     ended[$1]=yes
 }
 
-# Runs the parts. Where one more can run, the first that need not wait starts.
+# Runs the parts. Whenever one more can run, the first that need not wait starts.
 run_parts() {
     local at it
     while [ $((${#waiting[@]} + ${#running[@]})) -gt 0 ]; do
@@ -81,14 +82,14 @@ run_parts() {
 exec 3>&2
 proofs() { tests/prove.sh 2>&3 && echo "3 passed, 0 failed"; }
 
-# Builds a program unproved. Where that fails, no older one plays in its place.
+# Builds a program unproved. If that fails, no older one plays in its place.
 build() { make --no-print-directory -s "out/covered/$1" || { rm -f "out/covered/$1"; return 1; }; }
 
 # Where it stands, or what `rt ci` has built.
 program() { [ "$mode" = proved ] && echo "$PWD/crates/$1/out/$1" || echo "$PWD/out/covered/$1"; }
 
-# What the gate says where it finds no tools, and `make run` in a copy of the tree, where halfmap is built and not proved: to a
-# line, where the reader of many answers goes away, and where nothing can be written.
+# What the gate says if it finds no tools. Then what `make run` says in a copy of the tree, in which halfmap is built and not
+# proved: to a line, if the reader of many answers goes away, and if nothing can be written.
 says() {
     local copy=$folder/copy not_proved="This halfmap is not proved; make prove proves it."
     unset MAKEFLAGS MAKELEVEL
@@ -115,12 +116,12 @@ try_tests() {
     local said
     said=$(tests/build_unproved.sh "$1" "out/covered/$1_tests" tests 2>&1)
     echo "$said"
-    # Where it does not compile there is no result.
+    # If it does not compile, there is no result.
     sed -n -E 's/^test result: .* ([0-9]+) passed; ([0-9]+) failed;.*/\1 passed, \2 failed/p' <<<"$said" | grep . ||
         echo "0 passed, 1 failed"
 }
 
-# Tries every edit in a copy of the tree as it is now, since `rt ci` leaves processors idle where crates wait for one another.
+# Tries every edit in a copy of the tree as it is now, since `rt ci` leaves processors idle when crates wait for one another.
 # They give way to it.
 edits() {
     local tree=$folder/tree
@@ -137,6 +138,7 @@ part t "proofs" - proofs
 part tc "build of witness" - build witness
 part tc "tests of half_tests" - try_tests half_tests
 part tp "must not compile" - tests/must_not_compile.py
+part tp "copied uses" - tests/copied_uses.py
 part tc "build of halfmap" - build halfmap
 part tpc "random run" "build of witness" tests/witness.py
 part tpc "documentation" "build of halfmap" tests/documentation.py
@@ -151,7 +153,8 @@ part tp "what make says" "build of halfmap" says
 part tpc "json_at" "build of json_at" tests/programs.py json_at
 part tpc "word_count" "build of word_count" tests/programs.py word_count
 part tp "sources" - tests/sources.py
-# Its tests are built where all is proved.
+part tp "archive" - tests/try_archive.py
+# Its tests are built when all is proved.
 part p "refused reads" - tests/refused_reads.py
 part a "rt ci" - rt ci
 part a "edits" - edits

@@ -1,6 +1,6 @@
 #!/usr/bin/env python3
-"""Runs halfmap over pipes that nobody should have, and takes its input, its output and its memory away. What it answers to a
-line its contract says; here is shown when the answers come, and what is left where something fails.
+"""Runs halfmap over pipes that nobody should have, and takes its input, its output and its memory away. Its contract says what
+it answers to a line. This shows when the answers come, and what is left if something fails.
 
 The program is the one that HALFMAP names, or the proved one. The last line is "N passed, M failed".
 """
@@ -18,14 +18,14 @@ import tools
 PROGRAM = tools.program("halfmap")
 # Far more than any run takes, so that only one that does not end meets it.
 SECONDS = 60
-# What the program may take of memory where it holds few pairs, with the C library: its buffers have 8 KiB each.
+# What the program may take of memory if it holds few pairs, with the C library: its buffers have 8 KiB each.
 SMALL = 3 << 20
 MEBI = 1 << 20
 ALL_AT_ONCE = 1 << 20
 
 
 class Run:
-    """A run of the program, which is killed where it does not end. What is not as it should be is an AssertionError."""
+    """A run of the program, which is killed if it does not end. What is not as it should be is an AssertionError."""
 
     def __init__(self, streams="", **variables):
         """`streams` redirects streams as a shell does. With variables streams.c is preloaded, and reads them."""
@@ -81,7 +81,7 @@ class Run:
 
 
 def each_answer_comes_before_more_is_read():
-    """Where parts are lines, and where lines end anywhere in them."""
+    """Both when parts are lines, and when lines end anywhere in them."""
     lines = [(b"i 1 10\n", b"none\n"), (b"i 1 11\n", b"was 10\n"), (b"g 1\n", b"11\n")]
     lines += [(line, b"bad line\n") for line in (b"i 1\n", b"g +1\n", b"g \xff\n")]
     parts = [(b"f\ni 2", b"vec 1\n"), (b" 10\r\n\ng", b"none\nbad line\n"), (b" 2\nf", b"10\n"), (b"\nr 1", b"vec 2\n")]
@@ -135,7 +135,7 @@ def a_reader_that_is_slow():
 
 
 def bytes_that_come_in_any_way():
-    """So many at once, and with reads that are interrupted."""
+    """Some number of bytes at once, and with reads that are interrupted."""
     text = b"i 1 10\ni 01 007\r\n\ng 1\ni 00000000000000000001 00000000000000000002\r\ng 000000000000000000001\nx\nf"
     answers = b"none\nwas 10\nbad line\n7\nwas 7\nbad line\nbad line\nvec 1\n"
     for way in [{"READ_MOST": most} for most in (1, 2, 7, ALL_AT_ONCE)] + [{"READ_INTERRUPTED": 1, "READ_MOST": 1}]:
@@ -180,7 +180,8 @@ def a_reader_that_goes_away():
 
 
 def each_request_for_memory_refused():
-    """The two buffers and the line are refused as it starts. Later one insertion finds no room, whichever, and nothing else."""
+    """The two buffers and the line are refused as it starts. A later refusal leaves no room for one insertion, and changes
+    nothing besides."""
     keys, full = 3000, [0, 5, *(6 * 2**size for size in range(9))]
     text = b"".join(b"i %d 1\n" % key for key in range(keys)) + b"f\n"
     *refused, whole = preloaded.each_request_refused([PROGRAM], text)

@@ -4,10 +4,10 @@
     tests/instructions.py [WORD..]    all rows, or those that have one of these words: half_bench has to be proved
     tests/instructions.py --write     stores what it counts
 
-They are the same in each run, whatever else the machine does: for one operation, or one pair of a map, in maps of 10, 1,000 and
-30,000 pairs. A row fails where a number differs from the stored one by more than 1 %, and where the last is more than 1.3 times
-the one before, so that the call takes longer as its map grows. Only the program's own instructions count, since the C library
-picks its routines by the processor.
+They are the same in each run, whatever the machine does besides: for one operation, or one pair of a map, in maps of 10, 1,000
+and 30,000 pairs. A row fails if a number differs from the stored one by more than 1 %. It also fails if the last is more than
+1.3 times the one before: then the call takes longer as its map grows. Only the program's own instructions count, since the C
+library picks its routines by the processor.
 """
 
 import concurrent.futures

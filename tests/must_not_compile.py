@@ -1,9 +1,9 @@
 #!/usr/bin/env python3
 """Programs that misuse what the map lends must not compile: those of tests/must_not_compile.txt.
 
-All of them are put into one crate, as its modules, over a copy of the libraries' sources, where nothing is proved. The compiler
-stops after the first of its passes that finds errors. So those that it has found are taken out, and the rest is compiled again
-until it finds none: these have to be the ones that compile, and they are run.
+All of them are put into one crate, as its modules, over a copy of the libraries' sources, and nothing is proved there. The
+compiler stops after the first of its passes that finds errors. So those that it has found are taken out, and the rest is
+compiled again until it finds none. These have to be the ones that compile, and they are run.
 
 The last line is "N passed, M failed".
 """
@@ -28,8 +28,8 @@ pub fn main(rt: &HostRuntime) {{
 
 def compile_crate(bodies, crate):
     """Makes the crate of these programs, and returns what the compiler says and the run."""
-    shutil.rmtree(crate / "src", ignore_errors=True)
-    (crate / "src").mkdir(parents=True)
+    shutil.rmtree(crate / "src")
+    (crate / "src").mkdir()
     for name, body in bodies.items():
         (crate / "src" / f"{name}.rt").write_text(MODULE.format(body))
     modules, calls = ("".join(text.format(it) for it in bodies) for text in ("mod {};\n", "    {}::main(&rt);\n"))
@@ -53,10 +53,8 @@ def judge(bodies, crate):
 
 cases = CASE.findall((tools.TESTS / "must_not_compile.txt").read_text())
 with tempfile.TemporaryDirectory() as folder:
-    folder = tools.copy_sources(pathlib.Path(folder), tools.crates_of("halfbrown"))
-    with open(folder / "crates.txt", "a") as lines:
-        lines.write("misuse: halfbrown\n")
-    found, said = judge({name: body for name, _, body in cases}, folder / "crates/misuse")
+    crate = tools.crate_above(pathlib.Path(folder), "misuse", "halfbrown")
+    found, said = judge({name: body for name, _, body in cases}, crate)
 told = [None if found.get(it) == wanted else f"{it}: wanted {wanted}, found {found.get(it)}" for it, wanted, _ in cases]
 print(said[-2000:] if any(told) else "", end="")
 tools.end(told)

@@ -1,6 +1,7 @@
 #!/usr/bin/env python3
-"""Draws docs/speed.svg: times and bytes of this map beside those of std's, from the figures in docs/SPEED.md, or from those that
-`make bench` has just measured. And docs/tail.svg: how often a search reads many buckets, from the figures in docs/TABLE.md."""
+"""Draws docs/speed.svg: times and bytes of this map next to those of std's, from the figures in docs/SPEED.md, or from those
+that `make bench` has just measured. It also draws docs/tail.svg: how often a search reads many buckets, from the figures in
+docs/TABLE.md."""
 
 import functools
 import itertools
@@ -78,7 +79,7 @@ def picture(times, memory):
 
 
 def proved_tail(load, many):
-    """At most which part of the misses reads more than so many buckets, as half_mean proves."""
+    """At most which part of the misses reads more than a number of buckets, as half_mean proves."""
     per_empty = max(2, math.ceil(1 / (1 - load)))
     return (1 - 1 / (per_empty * (2 * per_empty - 1))) ** many
 
@@ -91,7 +92,7 @@ def true_tails(load):
     def lists(buckets, held):  # The logarithm of how many lists of homes leave the last bucket empty.
         return math.log(buckets - held) + (held - 1) * math.log(buckets)
 
-    def run(full):  # The chance that so many given neighbours are full, and the buckets beside them empty.
+    def run(full):  # The chance that as many given neighbours are full, and the buckets next to them empty.
         chosen = math.lgamma(held + 1) - math.lgamma(full + 1) - math.lgamma(held - full + 1)
         return math.exp(chosen + lists(full + 1, full) + lists(BUCKETS - full - 1, held - full) - held * math.log(BUCKETS))
 
@@ -100,7 +101,7 @@ def true_tails(load):
 
 
 def one_in(part):
-    """Of how many searches one is of this part, rounded down to three digits; and where none is, a dash."""
+    """Of how many searches one is of this part, rounded down to three digits, or a dash if none is."""
     if not part:
         return "-"
     digits = max(0, math.floor(math.log10(1 / part)) - 2)

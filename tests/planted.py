@@ -2,12 +2,12 @@
 
 A program takes half a minute to compile. So the edits with `found by: the random run N, PART of CALL` are planted in one
 program for each N. Each has to show in this part of the answers of this call: the `answer` itself, the `work`, the `state` or
-the `drops`. One that does not is tried alone. Whoever writes an edit sees that no other of its program shows there. How a
+the `drops`. One that does not is tried by itself. Whoever writes an edit sees that no other of its program shows there. How a
 program ends, what it leaks, its requests for memory and its calls of closures do not count.
 
-The edits with `found by: coverage.py FUNCTION` are planted in one copy too. In each such function more blocks are entered by no
-test than the list has. Those with `found by: instructions.py ROW SIZE` make their row longer, and those of sources.py show in
-their file. A script finds an edit by a line of its own, and `the tests of half_tests` by a test that fails.
+The edits with `found by: coverage.py FUNCTION` are planted in one copy too. In each such function the blocks that no test
+enters are more than the list has. Those with `found by: instructions.py ROW SIZE` make their row longer, and those of
+sources.py show in their file. A script finds an edit by a line of its own, and `the tests of half_tests` by a test that fails.
 """
 
 import functools
@@ -24,7 +24,7 @@ from model.lines import name_of
 from random_scripts import FIRST_LINES, LONG, make_script
 from scripts import agrees, play
 
-# The scripts of the random run that have to find an edit: their number, and their one kind of values and one limit, as each
+# The scripts of the random run that have to find an edit: their number, and their one kind of values and one limit, since each
 # takes seconds to compile.
 SCRIPTS, FIRST_LINE = 60, ("map", 5)
 PARTS = ("answer", "work", "state", "drops")
@@ -47,7 +47,7 @@ def build(folder, name):
 
 def build_witness(folder, first_lines):
     """Builds `witness` of this copy for scripts with these first lines, such as ("map", 5), and returns where it is. It has no
-    other limits, and `owning` maps only where they are named."""
+    other limits, and `owning` maps only if they are named."""
     script = folder / "crates/witness/src/script.rt"
     arm = re.compile(r'^ +"(\d+)" => self\.\w+::<.*>\(.*\),\n', re.M)
     owning = re.compile(r'^ +"owning" => .*\n', re.M)
@@ -81,7 +81,7 @@ def said_by_check(folder, edits):
 
 
 def said_by_count(folder, edits):
-    """How many instructions each row takes, if these are more than where nothing is planted, or None."""
+    """How many instructions each row takes, if these are more than when nothing is planted, or None."""
     rows = [edit.shown_by.rpartition(" ") for edit in edits]
     with tempfile.TemporaryDirectory(prefix="counted-") as other:
         unedited = tools.copy_sources(pathlib.Path(other), tools.crates_of())
@@ -146,7 +146,8 @@ def in_programs(edits):
 
 
 def attempt(edits):
-    """Whether each edit of a program is found by what it names, and what shows it; None for one that has to be tried alone."""
+    """Whether each edit of a program is found by what it names, and what shows it; None for one that has to be tried by
+    itself."""
     finder = next((finder for start, finder in FINDERS.items() if edits[0].found_by.startswith(start)), said_by_script)
     with tempfile.TemporaryDirectory(prefix="planted-") as folder:
         folder, texts = tools.copy_sources(pathlib.Path(folder), tools.crates_of()), {}

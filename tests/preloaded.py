@@ -7,7 +7,7 @@ import tempfile
 import tools
 
 LIBRARIES = tempfile.TemporaryDirectory()
-# Far more requests for memory than any program makes of which each is refused.
+# Far more requests for memory than any program makes that `each_request_refused` runs.
 MOST_REQUESTS = 200
 for name in ("allocator", "streams"):
     command = ["cc", "-O2", "-Wall", "-Wextra", "-fno-builtin", "-shared", "-fPIC", "-o", f"{LIBRARIES.name}/{name}.so"]
@@ -20,8 +20,8 @@ def environment(library, **variables):
 
 
 def each_request_refused(command, text=b""):
-    """What a program printed and said, and its status, as its first request for memory is refused, its second, and so on, up to
-    the first run that makes no such request. Of each refused request allocator.c says a line."""
+    """What a program printed and said, and its status, when its first request for memory is refused, its second, and so on. The
+    last is the first run that makes no such request. Of each refused request allocator.c says a line."""
     for request in range(1, MOST_REQUESTS):
         refusing = environment("allocator", REFUSE_UNMARKED=1, REFUSE_FROM=request, REFUSE_TO=request)
         ran = subprocess.run(command, input=text, capture_output=True, env=refusing, timeout=60)

@@ -1,10 +1,10 @@
 #!/usr/bin/env python3
-"""What json_at or word_count prints, and where it refuses: nothing but a line that says why, with status 1.
+"""What json_at or word_count prints. If it refuses, that is only a line that says why, with status 1.
 
     tests/programs.py NAME
 
-Its stored input is played, and each request for memory that it makes then is refused alone. json_at is compared with Python's
-json: on JSON files of the toolchain, and on documents made at random, whole and at paths.
+Its stored input is played, and each request for memory that it makes then is refused by itself. json_at is compared with
+Python's json: on JSON files of the toolchain, and on documents made at random, whole and at paths.
 
 The program is the one that JSON_AT or WORD_COUNT names, or the proved one. The last line is "N passed, M failed".
 """
@@ -23,7 +23,7 @@ import tools
 
 NAME = sys.argv[1]
 PROGRAM = tools.program(NAME)
-# An argument or none, an input, and what is said of it.
+# An argument or none, an input, and what is said about it.
 REFUSED = {
     "json_at": [
         ([], b'"\xff"', "the input is no UTF-8 text"),

@@ -1,9 +1,9 @@
 #!/bin/sh
-# Proves crates, where something has changed, and says how far it is.
+# Proves crates, if something has changed, and says how far it is.
 #
 #   tests/prove.sh                     proves half_store, halfbrown and halfmap, and builds halfmap
 #   tests/prove.sh CRATE COMMAND ..    rt's command `lib`, `check` or `run` for each crate
-#   tests/prove.sh minutes             how long the first takes on as many processors, where nothing is proved
+#   tests/prove.sh minutes             how long the first takes on as many processors, if nothing is proved
 set -u
 cd "$(dirname "$0")/../crates" || exit 1
 began=$(date +@%s.%N)
@@ -16,7 +16,7 @@ log=$(mktemp) || exit 1
 trap 'rm -f "$log"' EXIT
 trap 'exit 1' HUP INT TERM
 
-# prove CRATE COMMAND: what rt says is shown where it fails.
+# prove CRATE COMMAND: what rt says is shown if it fails.
 prove() {
     (cd "$1" && rt "$2" --jobs "$jobs" </dev/null 2>&1 || echo "status $?") | tee "$log" |
         sed -u -n "s/^so far: \([0-9]* of [0-9]* functions\).*/$1: \1/p; /^rt: waiting /p" >&2
@@ -25,7 +25,7 @@ prove() {
         echo "$1 is not proved" >&2
         exit 1
     fi
-    # Where the program is already that of these sources, rt leaves its stamp, whose time run.sh reads.
+    # If the program is already that of these sources, rt leaves its stamp, whose time run.sh reads.
     [ "$2" != run ] || touch -cd "$began" "$1/out/$1.stamp"
 }
 

@@ -1,5 +1,5 @@
-"""Scripts of calls that are made at random, in the language of docs/SCRIPTS.md. The model is played meanwhile: it says
-what is held, so that a script can bring the map into each state, and make any call of the table there."""
+"""Scripts of calls that are made at random, in the language of docs/SCRIPTS.md. The model is played meanwhile, and says what is
+held. So a script can bring the map into each state, and make any call of the table there."""
 
 import bisect
 import collections
@@ -90,7 +90,7 @@ class Script:
         return self.chance.choice(TOO_GREAT if self.chance.random() < 0.1 else SIZES)
 
     def which(self, id_):
-        """What a match accepts. In a table `any` is determined where no two keys have one hash."""
+        """What a match accepts. In a table `any` is determined if no two keys have one hash."""
         is_determined = self.rule == "plain" or self.limit >= MOST_PAIRS
         return self.chance.choice((id_, id_, id_, "none", "any" if is_determined else "none"))
 
@@ -181,7 +181,7 @@ class Script:
                 self.call(REMOVING, self.held_id(), may_be_refused=True)
 
     def reach(self, state):
-        """Brings the map into this state, where its limit allows that."""
+        """Brings the map into this state, if its limit allows that."""
         state = "vec" if self.limit >= MOST_PAIRS and state != "tight vec" else state
         if state.endswith("vec") and (not self.a.is_vec or self.a.has_gone_back):
             self.call(ANEW)
@@ -205,7 +205,7 @@ class Script:
                 self.add("shrink_to_fit")
 
     def flood(self, count, stride):
-        """Many pairs, and any call then. The keys collide where the rule has one hash, or the stride is that of buckets."""
+        """Many pairs, and any call then. The keys collide if the rule has one hash, or the stride is that of buckets."""
         for start in range(0, count, 50):
             self.add("extend " + " ".join(f"{number * stride} {number}" for number in range(start, start + 50)))
         self.keys, self.stride, self.first = 2 * count, stride, 0
@@ -225,7 +225,7 @@ LONG += [(("map", limit, rule), lambda script: script.run_at_length(1000)) for l
 
 
 def make_script(seed, index):
-    """The script of this index, of which the first ones are long."""
+    """The script of this index. The first ones are long."""
     chance = random.Random(f"{seed} {index}")
     if index < len(LONG):
         first, fill = LONG[index]

@@ -1,6 +1,6 @@
 #!/usr/bin/env python3
-"""Refuses each request for memory alone of the test of half_serde that reads a map twice. The read that is refused has to be an
-error of memory, the other one whole, and all memory given back.
+"""Refuses each request for memory, one at a time, of the test of half_serde that reads a map twice. The refused read has to be
+an error of memory, the other one whole, and all memory given back.
 
 It takes the tests as `rt ci` has proved and built them. The last line is "N passed, M failed".
 """

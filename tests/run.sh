@@ -1,5 +1,5 @@
 #!/bin/bash
-# Runs halfmap on standard input: the proved program where it is up to date, and else one that is built with nothing proved.
+# Runs halfmap on standard input: the proved program if it is up to date, and otherwise one that is built with nothing proved.
 #
 #   tests/run.sh FILE    FILE, which is there, says why nothing ran; it then has what this run failed with, or is gone
 set -u
@@ -18,7 +18,7 @@ fits() {
 
 fails() { echo "$1" >"$why"; exit 1; }
 
-# rt stores the stamp only where the sources did not change while it proved them.
+# rt stores the stamp only if the sources did not change while it proved them.
 if fits $proved $proved.stamp "$(realpath "$(command -v rt)")"; then
     program=$proved
 elif program=$unproved && fits $unproved $unproved tests/build_unproved.sh; then

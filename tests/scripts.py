@@ -6,12 +6,12 @@
 docs/SCRIPTS.md has the lines. `# ..` is a comment, and `<3: 8n n+1>` stands for its words with 0, 1, 2 for `n`: `0 1 8 2 16 3`.
 `= WANTED` is the answer of the call above it, and may lack the fields after the form. Each first line begins anew, in a process
 of its own. A line too many fails, such as `kept N blocks` of the allocator. If `refused` stands once between two first lines,
-these lines are played with the first request of that call refused, with the second, and so on until none is, with each two in a
-row, and with all. It and later calls may then have other answers, `or WANTED`, and some play must give each. If it stands more
-often, one play refuses all requests.
+these lines are played with the first request of that call refused, with the second, and so on until none is. They are also
+played with each two in a row refused, and with all. That call and later ones may then have other answers, `or WANTED`, and some
+play must give each. If it stands more often, one play refuses all requests.
 
-The program is the one that WITNESS names, or the proved one. A call passes where each play meets a line that is wanted of it.
-One that fails is printed as scripts/FILE:LINE with what was found, and the last line is "N passed, M failed".
+The program is the one that WITNESS names, or the proved one. A call passes if each play meets a line that is wanted of it. One
+that fails is printed as scripts/FILE:LINE with what was found, and the last line is "N passed, M failed".
 """
 
 import dataclasses
@@ -30,14 +30,14 @@ from model.session import answers
 
 SCRIPTS = tools.TESTS / "scripts"
 SECONDS = 120
-# The model searches a list, and plays no part of as many characters.
+# The model searches a list, so it plays only parts of fewer characters.
 MOST_ON_THE_MODEL = 2**18
 REPEATED, TERM = re.compile(r"<(\d+): ([^<>]*)>"), re.compile(r"\b(\d*)n(?:\+(\d+))?\b")
 
 
 @dataclasses.dataclass
 class Call:
-    """A line of a script, where it stands, and the texts of which one must be its answer."""
+    """A line of a script, where it stands, and the texts one of which must be its answer."""
 
     text: str
     place: str
@@ -94,8 +94,8 @@ def play(program, lines, refuse=ALL):
 
 
 def plays_of(part, program):
-    """What is said of each play of a part, and what was printed. Of one refused call each request is refused in turn, then
-    each two in a row, then all."""
+    """What each play of a part is called, and what it printed. Of one refused call each request is refused in turn, then each
+    two in a row, then all."""
     lines, refusing = [call.text for call in part], refused(part)
     plays = [("the program", play(program, lines))]
     if sum(map(len, lines)) < MOST_ON_THE_MODEL:
@@ -111,7 +111,7 @@ def plays_of(part, program):
 
 
 def agrees(exact, spanned):
-    """Whether a line is as the model has it, where a word LO..HI stands for each number from LO to HI."""
+    """Whether a line is as the model has it; a word LO..HI stands for each number from LO to HI."""
 
     def is_within(word, span):
         least, dots, most = span.partition("..")

@@ -1,9 +1,9 @@
 #!/usr/bin/env python3
-"""Searches the sources of what users take for what neither a proof nor a run shows: values that are forgotten, and
-work that is done beside the count.
+"""Searches the sources of what users take for what neither a proof nor a run shows: values that are forgotten, and work that is
+done but not counted.
 
 A rule is a sentence, a pattern that stands nowhere, and the files that are allowed to have it. Comments, clauses, `use` lines
-and tests are left out, and so is each plain call whose body is its counted call in `uncounted!`; white space is one space. Each
+and tests are left out. So is each plain call whose body is its counted call in `uncounted!`. White space is one space. Each
 line of QUOTED stands once, word for word; `..` is the rest of a signature.
 """
 
@@ -22,19 +22,17 @@ RULES = (
      r"fn (?!(?:from_iter|run)_counted)\w+_counted\b(?:<(?:[^()]|\([^()]*\))*?>)?\((?! ?&?(?:mut )?self\b)", ()),
     ("`uncounted!` lends its spare tally to one of these functions, which does what no clause counts.",
      r"uncounted!\((?!(?:table\.(?:bucket_of\(index|(?:shift_)?remove_at\(found\.index, found\.bucket|add\(hash)"
-     r"|first_empty\(&held, hashes\[index\]|LimitedHashMap::collect\(alloc, N, pairs\.into_iter\(\))\)\))", ()),
+     r"|first_empty\(buckets, &hashes\[\.\.index\], hashes\[index\]|LimitedHashMap::collect\(alloc, N, pairs\.into_iter\(\))\)\))", ()),
     ("Only `hash_one` builds a hasher.", r"(?:\.|::)(?:hash(?:_slice)?\(|build_hasher\b)|::hash\b", ()),
     ("Only `compare` calls what compares keys.", r"\b(?:matches|is_match)\)?\(", ("half_store/src/counting",)),
 )
 
 # Through these goes all that is counted, or no clause says what they leave.
 QUOTED = """
-half_store/src/counting hash_one..{ tally.add_asked(); builder.hash_one(key) }
-half_store/src/counting compare..{ tally.add_compared(); matches(key) }
-half_store/src/words word_at..{ tally.add_looked(); self.words[bucket] as usize }
-half_store/src/words word_at..{ tally.add_looked(); self.words[bucket] }
-half_store/src/buckets read..{ match self.buckets.word_at(bucket, tally) { \
-0 => None, full => { let index = full - 1; Some((index, self.hashes[index])) } } }
+half_store/src/counting hash_one..{ tally.asked = tally.asked.plus_one(); builder.hash_one(key) }
+half_store/src/counting compare..{ tally.compared = tally.compared.plus_one(); matches(key) }
+half_store/src/words word_at..{ tally.looked = tally.looked.plus_one(); self.words[bucket] as usize }
+half_store/src/words word_at..{ tally.looked = tally.looked.plus_one(); self.words[bucket] }
 half_store/src/tally uncounted { ($of:ident.$call:ident($($given:expr),*)) => { \
 $of.$call($($given,)* &mut $crate::Tally::new()) }; ($($call:ident)::+($($given:expr),*)) => { \
 $($call)::+($($given,)* &mut $crate::Tally::new()) }; }

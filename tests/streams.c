@@ -1,8 +1,8 @@
 // Makes standard input and output of a program that it is preloaded into worse than pipes are.
 //
 // READ_MOST: each read of standard input returns at most this many bytes. READ_INTERRUPTED: the first read of it, and each
-// second one from there on, is interrupted. READ_FAILS: where the input ends, the read fails. WRITE_ROOM: standard output
-// takes this many bytes, and then each write of it fails.
+// second one from there on, is interrupted. READ_FAILS: when the input ends, the read fails. WRITE_ROOM: standard output takes
+// this many bytes, and then each write of it fails.
 #include <errno.h>
 #include <stdlib.h>
 #include <sys/syscall.h>

@@ -11,7 +11,7 @@ TOP = TESTS.parent
 
 
 def program(name):
-    """Where a program stands: where the variable of its name says, or else where it is proved."""
+    """Where a program stands: where the variable of its name says, or otherwise where it is proved."""
     path = pathlib.Path(os.environ.get(name.upper()) or TOP / f"crates/{name}/out/{name}")
     if not path.exists():
         end([f"{path} is not there: `rt run` in crates/{name} proves and builds it"])
@@ -39,6 +39,15 @@ def copy_sources(folder, crates, proved=False):
         if proved and (crate / "out").is_dir():
             shutil.copytree(crate / "out", copy / "out", copy_function=os.link)
     return folder
+
+
+def crate_above(folder, name, *below):
+    """Makes a crate of this name, with no file yet, above a copy of these crates, and returns its folder."""
+    crate = copy_sources(folder, crates_of(*below)) / "crates" / name
+    with open(folder / "crates.txt", "a") as lines:
+        lines.write(f"{name}: {' '.join(below)}\n")
+    (crate / "src").mkdir(parents=True)
+    return crate
 
 
 def end(told):

@@ -3,10 +3,9 @@
 
     tests/witness.py [N] [SEED]    makes N scripts, 600 if not said, from a seed
 
-The scripts are in the language of docs/SCRIPTS.md. Beside each answer its work, its drops and its memory are compared;
-allocator.c refuses all requests of `refused` calls, or in some scripts one of each. Where a script differs, lines
-are taken out as long as it still differs, and what is left is printed with both answers. The last line is
-"N passed, M failed".
+The scripts are in the language of docs/SCRIPTS.md. Besides each answer its work, its drops and its memory are compared;
+allocator.c refuses all requests of `refused` calls, or in some scripts one of each. If a script differs, lines are taken out as
+long as it still differs, and what is left is printed with both answers. The last line is "N passed, M failed".
 """
 
 import functools

@@ -1,3 +1,2 @@
 pub mod Prefixes
 pub mod Searches
-pub mod Tables

@@ -1,6 +1,5 @@
--- What the worked maps hold, and what is counted of their searches.
-use Rattle.std.specs.Prelude.{◌≡◌, ℕ, ◌+◌, Bool, true, false, not, ◌&&◌, ◌==◌, List, [], ◌∷◌, map}
-use Rattle.std.specs.List.{list_any}
+-- What the worked tables hold, and what is counted of their searches.
+use Rattle.std.specs.Prelude.{◌≡◌, ℕ, ◌+◌, false, List, map}
 use Rattle.half_store.specs.Work.{Work}
 use Rattle.halfbrown.specs.State.{State}
 use Rattle.test_support.specs.declared.builders.Rule.{Rule}
@@ -11,18 +10,13 @@ abbrev pub more_work : ℕ → ℕ → ℕ → Work → Work
 more_work asked compared looked w =
     record { asked = w.asked + asked; compared = w.compared + compared; looked = w.looked + looked }
 
--- no two of the numbers are the same
-abbrev pub are_distinct : List ℕ → Bool
-are_distinct [] = true
-are_distinct (n ∷ ns) = not (list_any (λ other. n == other) ns) && are_distinct ns
-
 -- each key with itself as its value
 abbrev pub twins : List ℕ → List (ℕ × ℕ)
 twins keys = map (λ key. (key, key)) keys
 
--- a table of these pairs in order, of this capacity and rule
-pub record IsTableOf (rule : Rule) (held : List (ℕ × ℕ)) (count : ℕ) (m : State ℕ ℕ Counting) : Type 0 where
+-- a table of these keys in order, of this capacity and rule
+pub record IsTableOf (rule : Rule) (keys : List ℕ) (count : ℕ) (m : State ℕ ℕ Counting) : Type 0 where
   pub form : m.is_vec ≡ false
-  pub pairs : m.pairs ≡ held
+  pub pairs : m.pairs ≡ twins keys
   pub capacity : m.capacity ≡ count
   pub builder : m.builder.rule ≡ rule

@@ -1,32 +1,15 @@
-//! What callers build on the map, proved from its public contracts alone: names of a scope, a set of labels, few ages, and a map
-//! under random hashes.
-ghost use Rattle.std.specs.Prelude.{◌≡◌, ◌⊎◌, Some, true, false, not, ◌||◌, nat_le, length, [], OnOk, IfOk, IfErr};
+//! What callers build on the map, proved from its public contracts only: a look-up by a text, a look-up that cannot fail, few
+//! ages, and a map under random hashes.
+ghost use Rattle.std.specs.Prelude.{◌≡◌, ◌⊎◌, true, ◌||◌, nat_le, length, [], IfOk};
 ghost use Rattle.std.specs.Option.{option_copied};
 ghost use Rattle.std.specs.String.{string_bytes};
-ghost use Rattle.halfbrown.specs.Growth.{insert_needs, new_key_needs};
-ghost use Rattle.halfbrown.specs.Insertion.{HandsBack};
-ghost use Rattle.halfbrown.specs.Pairs.{value_of, holds, put};
+ghost use Rattle.halfbrown.specs.Pairs.{value_of};
 
-use halfbrown::{HashMap, Limit, LimitedHashMap, Refusal, Refused};
+use halfbrown::{HashMap, Limit, LimitedHashMap, Refusal};
 use std::alloc::Global;
 use std::hash::{BuildHasher, Hash, RandomState};
 use std::io;
 use std::random::RandomSource;
-
-/// Gives a name its meaning in a scope, and returns the meaning that it had there. On error nothing changes.
-pub fn declare<N: Eq + Hash + Drop, M, S: BuildHasher, L: Limit>(
-    scope: &mut LimitedHashMap<N, M, S, L>,
-    name: N,
-    meaning: M,
-) -> Result<Option<M>, Refused<N, M>>
-    ensures before { IfOk result (λ old. old ≡ value_of N.eq scope.old.pairs name) }
-    ensures declared { OnOk result (scope.new.pairs ≡ put N.eq scope.old.pairs name meaning) }
-    ensures means { OnOk result (value_of N.eq scope.new.pairs name ≡ Some meaning) }
-    ensures returned { IfErr result (HandsBack scope.old name meaning (insert_needs L.LIMIT N.eq scope.old name)
-        scope.new) }
-{
-    scope.insert(name, meaning)
-}
 
 /// What a text means in a scope of owned names. It finds what an owned name of the same text would, and allocates none.
 pub fn meaning_of<'a, M, S: BuildHasher, L: Limit>(
@@ -37,38 +20,6 @@ pub fn meaning_of<'a, M, S: BuildHasher, L: Limit>(
         → option_copied result ≡ value_of ⟦<String as PartialEq>⟧.eq scope.now.pairs owned }
 {
     scope.get(name)
-}
-
-/// Adds a label, and returns whether it is new. One that was added before keeps its index, and nothing changes.
-pub fn add_label<K: Eq + Hash + Drop, S: BuildHasher, L: Limit>(
-    labels: &mut LimitedHashMap<K, (), S, L>,
-    label: K,
-) -> Result<bool, Refused<K, ()>>
-    ensures is_new { IfOk result (λ is_new. is_new ≡ not (holds K.eq labels.old.pairs label)) }
-    ensures held { OnOk result (holds K.eq labels.new.pairs label ≡ true) }
-    ensures others { OnOk result ((other : K) → K.eq label other ≡ false
-        → holds K.eq labels.new.pairs other ≡ holds K.eq labels.old.pairs other) }
-    ensures again { holds K.eq labels.old.pairs label ≡ true → labels.new ≡ labels.old }
-    ensures returned { IfErr result (HandsBack labels.old label tt (new_key_needs L.LIMIT labels.old) labels.new) }
-{
-    if labels.contains_key(&label) {
-        return Ok(false);
-    }
-    labels.insert_nocheck(label, ())?;
-    Ok(true)
-}
-
-/// Forgets a name, and returns the meaning that it had.
-pub fn forget<N: Eq + Hash + Drop, M, S: BuildHasher, L: Limit>(
-    scope: &mut LimitedHashMap<N, M, S, L>,
-    name: &N,
-) -> Option<M>
-    ensures before { result ≡ value_of N.eq scope.old.pairs name.now }
-    ensures forgotten { holds N.eq scope.new.pairs name.now ≡ false }
-    ensures others { (other : N) → N.eq name.now other ≡ false
-        → value_of N.eq scope.new.pairs other ≡ value_of N.eq scope.old.pairs other }
-{
-    scope.remove(name)
 }
 
 /// The value that was just stored, by index: the clause of the insertion says that the key is held.

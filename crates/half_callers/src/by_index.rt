@@ -1,30 +1,19 @@
-//! What callers build on the calls by index, proved from their public contracts alone: a stack of names, a removal by
-//! the index that was found, and values that are set by an index that is given, or found.
-ghost use Rattle.std.specs.Prelude.{◌≡◌, ◌<◌, ◌++◌, ℕ, false, true, length, option_to_list, slice_get, Some, IfSome, if◌then◌else◌};
+//! What callers build on the calls by index, proved from their public contracts only: a removal by the index that was found,
+//! and values that are set by an index that is given, or found.
+ghost use Rattle.std.specs.Prelude.{◌≡◌, ◌<◌, ℕ, true, length, slice_get, Some, if◌then◌else◌};
 ghost use Rattle.std.specs.Map.{keys_of};
-ghost use Rattle.halfbrown.specs.Pairs.{value_of, pair_of, holds, set_value, set_value_at, take_out};
+ghost use Rattle.halfbrown.specs.Pairs.{value_of, stored_pair_of, holds, set_value, set_value_at, swap_out};
 
 use halfbrown::{Limit, LimitedHashMap};
 use std::hash::{BuildHasher, Hash};
-
-/// Leaves the innermost declaration of a scope. The others stay in their order.
-pub fn forget_last<N: Eq + Hash + Drop, M: Drop, S: BuildHasher, L: Limit>(
-    scope: &mut LimitedHashMap<N, M, S, L>,
-) -> Option<(N, M)>
-    ensures left { scope.old.pairs ≡ scope.new.pairs ++ option_to_list result }
-    ensures form { scope.new.is_vec ≡ scope.old.is_vec }
-    ensures forgotten { IfSome result (λ pair. holds N.eq scope.new.pairs pair.0 ≡ false) }
-{
-    scope.pop()
-}
 
 /// Removes the pair of a key, by its index, as `remove_entry` does.
 pub fn remove_by_index<K: Eq + Hash + Drop, V: Drop, S: BuildHasher, L: Limit>(
     map: &mut LimitedHashMap<K, V, S, L>,
     key: &K,
 ) -> Option<(K, V)>
-    ensures pair { result ≡ pair_of K.eq map.old.pairs key.now }
-    ensures taken { map.new.pairs ≡ take_out K.eq map.old.pairs key.now }
+    ensures pair { result ≡ stored_pair_of K.eq map.old.pairs key.now }
+    ensures taken { map.new.pairs ≡ swap_out K.eq map.old.pairs key.now }
 {
     let index = map.get_index_of(key)?;
     map.swap_remove_index(index)

@@ -1,10 +1,10 @@
-//! What callers build from collections, proved from their public contracts alone: two maps made one, items without those
+//! What callers build from collections, proved from their public contracts only: two maps made one, items without those
 //! that come again, and two sets made one.
 ghost use Rattle.std.specs.Prelude.{◌≡◌, ◌++◌, not, filter, IfOk, OnOk};
 ghost use Rattle.std.specs.Map.{keys_of};
 ghost use Rattle.std.specs.Option.{option_or};
 ghost use Rattle.std.specs.Set.{is_member};
-ghost use Rattle.halfbrown.specs.CallerLoops.{add_keys, first_of_each};
+ghost use Rattle.halfbrown.specs.ByKey.{add_keys, first_of_each};
 ghost use Rattle.halfbrown.specs.Pairs.{value_of};
 
 use half_set::HashSet;

@@ -1,7 +1,7 @@
-//! What callers build on clones and on pairs that are written out, proved from the public contracts alone.
-ghost use Rattle.std.specs.Prelude.{◌≡◌, ◌+◌, ◌-◌, ◌<◌, ◌^◌, true, [], ◌∷◌, IfOk, IsOk};
+//! What callers build on clones and on pairs that are written out, proved from the public contracts only.
+ghost use Rattle.std.specs.Prelude.{◌≡◌, ◌+◌, ◌-◌, ◌<◌, ◌^◌, true, [], ◌∷◌, IfOk};
 ghost use Rattle.std.specs.String.{string_bytes};
-ghost use Rattle.halfbrown.specs.CallerLoops.{keyed_by};
+ghost use Rattle.halfbrown.specs.ByKey.{keyed_by};
 
 use halfbrown::{DefaultHashBuilder, HashMap, Refusal, SizedHashMap, hashmap};
 use std::alloc::{AllocError, Global};
@@ -39,64 +39,25 @@ pub fn snapshot(users: &Users) -> Result<Users, AllocError>
     Ok(copy)
 }
 
-/// Of equal keys the last value counts, and the capacity is enough for all that is written. A last comma changes nothing.
-pub fn an_age_twice(alloc: Global, before: u32, now: u32) -> Result<HashMap<u64, u32>, Refusal>
-    ensures pairs { IfOk result (λ m. m.pairs ≡ (1, now) ∷ []) }
-    ensures form { IfOk result (λ m. m.is_vec ≡ true) }
-    ensures capacity { IfOk result (λ m. m.capacity ≡ 2) }
-{
-    hashmap! {in alloc; 1 => before, 1 => now,}
-}
-
-/// No pairs are written, and no memory is needed.
-pub fn no_ages(alloc: Global) -> Result<HashMap<u64, u32>, Refusal>
-    ensures granted { IsOk result }
-    ensures pairs { IfOk result (λ m. m.pairs ≡ []) }
-    ensures form { IfOk result (λ m. m.is_vec ≡ true) }
-    ensures capacity { IfOk result (λ m. m.capacity ≡ 0) }
-{
-    hashmap! {in alloc;}
-}
-
-/// One pair.
-pub fn one_age(alloc: Global, age: u32) -> Result<HashMap<u64, u32>, Refusal>
-    ensures pairs { IfOk result (λ m. m.pairs ≡ (1, age) ∷ []) }
-    ensures form { IfOk result (λ m. m.is_vec ≡ true) }
-    ensures capacity { IfOk result (λ m. m.capacity ≡ 1) }
-{
-    hashmap! {in alloc; 1 => age}
-}
-
-/// Two pairs, whose keys and values are each evaluated once, in the order in which they are written.
+/// Two pairs. The expression for the allocator, the keys and the values are each evaluated once, in the order in which they are
+/// written.
 pub fn numbered(alloc: Global, number: &mut u64) -> Result<HashMap<u64, u64>, Refusal>
-    requires { number.old < 2 ^ 64 - 4 }
+    requires { number.old < 2 ^ 64 - 5 }
     ensures pairs { IfOk result (λ m. m.pairs
-        ≡ (number.old + 1, number.old + 2) ∷ (number.old + 3, number.old + 4) ∷ []) }
+        ≡ (number.old + 2, number.old + 3) ∷ (number.old + 4, number.old + 5) ∷ []) }
     ensures form { IfOk result (λ m. m.is_vec ≡ true) }
     ensures capacity { IfOk result (λ m. m.capacity ≡ 2) }
-    ensures evaluated { number.new ≡ number.old + 4 }
+    ensures evaluated { number.new ≡ number.old + 5 }
 {
-    hashmap! {in alloc; next(number) => next(number), next(number) => next(number)}
+    hashmap! {in counted(alloc, number); next(number) => next(number), next(number) => next(number)}
 }
 
-/// Five pairs. The expression for the allocator is evaluated once.
-pub fn five_ages(alloc: Global, evaluated: &mut u64) -> Result<HashMap<u64, u32>, Refusal>
-    requires { evaluated.old < 2 ^ 64 - 1 }
-    ensures pairs { IfOk result (λ m. m.pairs
-        ≡ (1, 31) ∷ (2, 32) ∷ (3, 33) ∷ (4, 34) ∷ (5, 35) ∷ []) }
-    ensures form { IfOk result (λ m. m.is_vec ≡ true) }
-    ensures capacity { IfOk result (λ m. m.capacity ≡ 5) }
-    ensures evaluated { evaluated.new ≡ evaluated.old + 1 }
+// The allocator, for which the number goes up too.
+fn counted(alloc: Global, number: &mut u64) -> Global
+    requires { number.old < 2 ^ 64 - 1 }
+    ensures { number.new ≡ number.old + 1 }
 {
-    hashmap! {in counted(alloc, evaluated); 1 => 31, 2 => 32, 3 => 33, 4 => 34, 5 => 35}
-}
-
-// The allocator, and one evaluation more.
-fn counted(alloc: Global, evaluated: &mut u64) -> Global
-    requires { evaluated.old < 2 ^ 64 - 1 }
-    ensures { evaluated.new ≡ evaluated.old + 1 }
-{
-    *evaluated += 1;
+    *number += 1;
     alloc
 }
 

@@ -1,6 +1,6 @@
 //! What callers say of the work that a call does.
 ghost use Rattle.std.specs.Prelude.{◌≡◌, ◌≤◌, ◌+◌, true, OnOk};
-ghost use Rattle.halfbrown.specs.CostRanges.{GrewBy};
+ghost use Rattle.halfbrown.specs.CostRanges.{TallyGrewBy};
 ghost use Rattle.halfbrown.specs.Costs.{insert_cost};
 
 use halfbrown::{KeyHasher, Limit, LimitedHashMap, Refusal, Tally};
@@ -26,7 +26,7 @@ pub fn store<K: Eq + Hash + Drop, V: Drop, S: KeyHasher<K>, L: Limit>(
     tally: &mut Tally,
 ) -> Result<(), Refusal>
     ensures cost { OnOk result
-        (GrewBy (insert_cost L.LIMIT K.eq S.hash map.old key true) tally.old tally.new) }
+        (TallyGrewBy (insert_cost L.LIMIT K.eq S.hash map.old key true) tally.old tally.new) }
 {
     map.insert_counted(key, value, tally)?;
     Ok(())

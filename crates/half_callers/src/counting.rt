@@ -1,10 +1,9 @@
 //! What callers build in a loop: counts of words, and values summed or gathered by key.
-ghost use Rattle.std.specs.Prelude.{◌≡◌, ℕ, ◌^◌, ◌<◌, List, true, IfOk, IfSome, OnOk, filter, is_some, map, sum};
-ghost use Rattle.std.specs.List.{list_any};
-ghost use Rattle.std.specs.Map.{keys_of, values_of};
+ghost use Rattle.std.specs.Prelude.{◌≡◌, ℕ, ◌^◌, ◌<◌, List, true, IfOk, IfSome, filter, is_some, map, sum};
+ghost use Rattle.std.specs.Map.{values_of};
 ghost use Rattle.std.specs.Str.{bytes_eq};
 ghost use Rattle.std.specs.String.{string_bytes};
-ghost use Rattle.halfbrown.specs.CallerLoops.{add_key, CountsEach, GroupsEach, SumsEach, keyed_by};
+ghost use Rattle.halfbrown.specs.ByKey.{CountsEach, GroupsEach, SumsEach, keyed_by};
 
 use halfbrown::{HashMap, Refusal};
 use std::alloc::Global;
@@ -84,18 +83,4 @@ pub fn sum_by_text(
         *sum = more;
     }
     Ok(Some(sums))
-}
-
-/// Stores a pair. Its key is among the keys then, at the end where none equal to it was held.
-#[tactic(auto, using(halfbrown::proofs::callers::Keys::map_facts))]
-pub fn store<K: Eq + Hash + Drop, V: Drop>(
-    map: &mut HashMap<K, V>,
-    key: K,
-    value: V,
-) -> Result<(), Refusal>
-    ensures known { OnOk result (list_any (K.eq key) (keys_of map.new.pairs) ≡ true) }
-    ensures keys { OnOk result (keys_of map.new.pairs ≡ add_key K.eq (keys_of map.old.pairs) key) }
-{
-    map.insert(key, value)?;
-    Ok(())
 }

@@ -1,4 +1,4 @@
-//! What callers build on `drain`, proved from its public contract alone: the first pair of a map that is then empty, and all
+//! What callers build on `drain`, proved from its public contract only: the first pair of a map that is then empty, and all
 //! pairs in a list.
 ghost use Rattle.std.specs.Prelude.{◌≡◌, [], IfOk, slice_get};
 ghost use Rattle.halfbrown.specs.State.{WithPairs};

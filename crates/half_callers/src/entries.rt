@@ -1,4 +1,4 @@
-//! What callers build on entries, proved from their public contracts alone: counters, and a set of labels that are switched on
+//! What callers build on entries, proved from their public contracts only: counters, and a set of labels that are switched on
 //! and off.
 ghost use Rattle.std.specs.Prelude.{◌≡◌, ◌+◌, ◌-◌, ◌^◌, ℕ, Some, true, false, not, min, nat_eq, OnOk, OnErr, IfOk, unwrap_or};
 ghost use Rattle.halfbrown.specs.Growth.{is_vec_after};

@@ -1,4 +1,4 @@
-//! What callers conclude from the equality of maps, proved from its public contracts alone.
+//! What callers conclude from the equality of maps, proved from its public contracts only.
 ghost use Rattle.std.specs.Prelude.{◌≡◌, ◌+◌, true, false, nat_eq, length, IsTrue};
 ghost use Rattle.halfbrown.specs.Equality.{same_pairs};
 ghost use Rattle.halfbrown.specs.Pairs.{value_of};

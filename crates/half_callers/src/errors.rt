@@ -1,37 +1,21 @@
 //! What callers do with errors: `?` takes those of the map and those of std to one type.
-ghost use Rattle.std.specs.Prelude.{◌≡◌, Some, nat_eq, OnOk, OnErr, IfOk, IfErr};
+ghost use Rattle.std.specs.Prelude.{◌≡◌, ◌<◌, ◌↔◌, Some, nat_eq, OnOk, OnErr, IfOk, IfErr, IsErrOf};
 ghost use Rattle.std.specs.IoError.{error_kind};
 ghost use Rattle.std.specs.declared.io.ErrorKind.TheVariants.{OutOfMemory};
-ghost use Rattle.halfbrown.specs.Growth.{insert_needs, IsRefusal};
+ghost use Rattle.halfbrown.specs.Growth.{capacity_for_insert, IsRefusal};
 ghost use Rattle.halfbrown.specs.Pairs.{put, value_of};
 
-use halfbrown::{HashMap, Limit, LimitedHashMap, Refusal};
+use halfbrown::{HashMap, Refusal};
 use std::alloc::{AllocError, Global};
-use std::hash::BuildHasher;
 use std::io;
 
 /// Stores an age. It fails only if the insertion needs more capacity. On error nothing changes.
 pub fn store_age(ages: &mut HashMap<u64, u32>, id: u64, age: u32) -> Result<(), Refusal>
     ensures stored { OnOk result (ages.new.pairs ≡ put nat_eq ages.old.pairs id age) }
-    ensures refused { IfErr result (λ why. IsRefusal (insert_needs 32 nat_eq ages.old id) why) }
+    ensures refused { IfErr result (λ why. IsRefusal (capacity_for_insert 32 nat_eq ages.old id) why) }
     ensures err { OnErr result (ages.new ≡ ages.old) }
 {
     ages.insert(id, age)?;
-    Ok(())
-}
-
-/// Makes the capacity enough for two ages more, and stores Ada's and Ben's. Two errors, one type: `?` converts both.
-pub fn add_two<S: BuildHasher, L: Limit>(
-    ages: &mut LimitedHashMap<u64, u32, S, L>,
-    ada: u32,
-    ben: u32,
-) -> Result<(), Refusal>
-    ensures ada { OnOk result (value_of nat_eq ages.new.pairs 1 ≡ Some ada) }
-    ensures ben { OnOk result (value_of nat_eq ages.new.pairs 2 ≡ Some ben) }
-{
-    ages.reserve(2)?;
-    ages.insert(1, ada)?;
-    ages.insert(2, ben)?;
     Ok(())
 }
 
@@ -65,4 +49,47 @@ pub fn ages_of_main(alloc: Global) -> io::Result<HashMap<u64, u32>>
     ages.insert(1, 36)?;
     *ages.entry(2)?.or_insert(0) = 41;
     Ok(ages)
+}
+
+/// An error of a caller's own.
+#[derive(Debug, Drop)]
+pub enum AgeError {
+    TooOld,
+    Refused(Refusal),
+}
+
+/// Stores an age that a person may have. The error is made without an `impl From`, and the clauses of `insert` still tell it.
+pub fn store_possible_age(ages: &mut HashMap<u64, u32>, id: u64, age: u32) -> Result<(), AgeError>
+    ensures stored { OnOk result (ages.new.pairs ≡ put nat_eq ages.old.pairs id age) }
+    ensures too_old { IsErrOf result AgeError.TooOld ↔ (150 < age) }
+    ensures refused { (why : Refusal) → IsErrOf result (AgeError.Refused why)
+        → IsRefusal (capacity_for_insert 32 nat_eq ages.old id) why }
+    ensures err { OnErr result (ages.new ≡ ages.old) }
+{
+    if age > 150 {
+        return Err(AgeError::TooOld);
+    }
+    ages.insert(id, age)
+        .map_err(|refused| AgeError::Refused(refused.why))?;
+    Ok(())
+}
+
+/// The same through an entry, whose error is matched.
+pub fn store_possible_age_by_entry(
+    ages: &mut HashMap<u64, u32>,
+    id: u64,
+    age: u32,
+) -> Result<(), AgeError>
+    ensures stored { OnOk result (ages.new.pairs ≡ put nat_eq ages.old.pairs id age) }
+    ensures too_old { IsErrOf result AgeError.TooOld ↔ (150 < age) }
+    ensures err { OnErr result (ages.new ≡ ages.old) }
+{
+    if age > 150 {
+        return Err(AgeError::TooOld);
+    }
+    match ages.entry(id) {
+        Ok(entry) => *entry.or_insert(0) = age,
+        Err(refused) => return Err(AgeError::Refused(refused.why)),
+    }
+    Ok(())
 }

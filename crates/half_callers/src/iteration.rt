@@ -1,5 +1,5 @@
-//! What callers build on iteration, proved from its public contracts alone: sums and counts of what is held, a list, and values
-//! that are all written.
+//! What callers build on iteration, proved from its public contracts only: sums and counts of what is held, and values that
+//! are all written.
 ghost use Rattle.std.specs.Prelude.{◌≡◌, ◌+◌, ◌^◌, ◌<◌, ◌==◌, count_by, filter, map, min, nat_le, nat_lt, sum, IfOk};
 ghost use Rattle.std.specs.List.{find, list_all};
 ghost use Rattle.std.specs.Map.{keys_of, values_of};
@@ -74,16 +74,6 @@ pub fn keys_above<S: BuildHasher, L: Limit>(
         .filter(|(_, amount)| *amount > least)
         .map(|(key, _)| key)
         .collect(alloc)
-}
-
-/// The pairs, in their order.
-pub fn collected<K: Eq + Hash + Drop, V: Drop, S: BuildHasher + Drop, L: Limit>(
-    alloc: Global,
-    map: LimitedHashMap<K, V, S, L>,
-) -> Result<Vec<(K, V)>, AllocError>
-    ensures { IfOk result (λ list. list.items ≡ map.pairs) }
-{
-    map.into_iter().collect(alloc)
 }
 
 /// Lowers each value above the most to it.

@@ -1,4 +1,4 @@
-//! What callers build on the map, and worked maps in numbers: proved from public contracts alone.
+//! What callers build on the map, and worked tables in numbers: proved from public contracts only.
 #![tactic(auto)]
 
 pub mod basics;
@@ -11,8 +11,8 @@ pub mod drains;
 pub mod entries;
 pub mod equality;
 pub mod errors;
+pub mod guests;
 pub mod iteration;
-pub mod limits;
 pub mod raw_entries;
 pub mod retained;
 pub mod texts;

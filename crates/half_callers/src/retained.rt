@@ -1,4 +1,4 @@
-//! What callers build on `retain`, proved from its public contract alone: a stock from which what is sold out goes, and prices
+//! What callers build on `retain`, proved from its public contract only: a stock from which what is sold out goes, and prices
 //! that are halved.
 ghost use Rattle.std.specs.Prelude.{◌≡◌, ◌/◌, nat_le, filter, map};
 

@@ -2,7 +2,7 @@
 ghost use Rattle.std.specs.Prelude.{◌≡◌, ℕ, List, true, false, IfOk, OnOk, Some, None, if◌then◌else◌};
 ghost use Rattle.std.specs.Str.{bytes_eq};
 ghost use Rattle.std.specs.String.{string_bytes};
-ghost use Rattle.halfbrown.specs.CallerLoops.{keyed_by};
+ghost use Rattle.halfbrown.specs.ByKey.{keyed_by};
 ghost use Rattle.halfbrown.specs.Pairs.{holds, value_of};
 ghost use Rattle.halfbrown.specs.Updates.{HasPut, HasRemoved};
 

@@ -1,18 +1,21 @@
 //! Callers of calls that have a condition, each of which finds it met before it calls. An edit of `must-fail` takes that away in
 //! each, and the prover refuses it.
 
-use halfbrown::{HashMap, RawEntryMut, Refusal};
-use std::hash::BuildHasher;
+use halfbrown::{DefaultHashBuilder, Equivalent, HashMap, RawEntryMut, Refusal, SizedHashMap};
+use std::hash::{BuildHasher, Hash};
 
 /// A map from numbers to numbers, with any builder.
 pub type Numbers<S> = HashMap<u64, u64, S>;
 
-/// The value of a key, or 0 where it is not held.
-pub fn value_or_zero<S: BuildHasher>(map: &Numbers<S>, key: u64) -> u64 {
-    if map.contains_key(&key) {
-        return map[&key];
+/// The value of a key by `[]`, where the key is held.
+pub fn by_index<K: Eq + Hash + Drop, V: Copy + Drop, Q: Equivalent<K>, const N: usize>(
+    map: &SizedHashMap<K, V, DefaultHashBuilder, N>,
+    query: Q,
+) -> Option<V> {
+    if map.contains_key(query) {
+        return Some(map[query]);
     }
-    0
+    None
 }
 
 /// Adds a key where it is not held.

@@ -1,6 +1,7 @@
--- How many buckets searches read that find their keys: together as many as insertions, whatever was inserted and removed before.
+-- How many buckets searches that find their keys read: together as many as insertions, whatever was inserted and removed
+-- before.
 --
--- Keys do not appear in a mean, only the hashes that held keys may have. Nothing is said of how likely a builder makes them.
+-- Keys do not appear in a mean, only the hashes that held keys may have. No law says how likely a builder makes them.
 use Rattle.std.specs.Prelude.{◌≡◌, ℕ, ◌+◌, ◌<◌, Bool, false, length, Option, Some, IsPermutation, List}
 use Rattle.std.specs.Map.{keys_of}
 use Rattle.half_store.specs.Capacity.{buckets_of}
@@ -20,8 +21,8 @@ module _ {K : Type 0} (V : Type 0) {S : Type 0} (hash : S → K → ℕ) where
       → index_of test (keys_of m.pairs) ≡ Some index
       → IsSearchCost hash wanted m (index_of test (keys_of m.pairs)) asked before after → after.looked ≡ before.looked + hit_reads m index
 
-  -- the searches for all pairs, one each, read as many as the insertions of these pairs into an empty table of this capacity: each search
-  -- says so, whatever it finds
+  -- the searches for all pairs, one each, read as many buckets as the insertions of these pairs into an empty table of this
+  -- capacity. Each search says so, whatever it finds
   abbrev pub HitTotalLaw : Type 0
   HitTotalLaw = (m : State K V S) (wanted asked : ℕ) (found : Option ℕ) (before after : Work) → m.is_vec ≡ false
       → IsSearchCost hash wanted m found asked before after
@@ -40,7 +41,8 @@ abbrev pub FillingOrderLaw : Type 0
 FillingOrderLaw = (buckets : ℕ) (some others : List ℕ) → length some < buckets → IsPermutation some others
     → filling_reach buckets some ≡ filling_reach buckets others
 
--- what the searches for all held pairs read in all cases: each list of `held` hashes in a table of this capacity. All hashes are below `hashes`
+-- what the searches for all held pairs read in all cases: each list of `held` hashes in a table of this capacity. All hashes
+-- are below `hashes`
 abbrev pub total_hits : (hashes capacity held : ℕ) → ℕ
 total_hits hashes capacity held = sum_lists hashes held (λ list. filling_reach (buckets_of capacity) list)
 

@@ -5,7 +5,7 @@ pub mod MeanLaws
 pub mod ProbeLaws
 pub mod RunLaws
 pub mod TailLaws
--- What callers need of the words below, so that they list this crate alone.
+-- What callers need of the words below, so that they list only this crate.
 pub use Rattle.half_store.specs.Capacity
 pub use Rattle.half_store.specs.Work
 pub use Rattle.halfbrown.specs.CostRanges

@@ -1,6 +1,6 @@
--- How many buckets a search that finds nothing reads on average, where all lists of hashes are equally likely.
+-- How many buckets a search that finds nothing reads on average, if all lists of hashes are equally likely.
 --
--- Keys do not appear in a mean, only the hashes that held keys may have. Nothing is said of how likely a builder makes them.
+-- Keys do not appear in a mean, only the hashes that held keys may have. No law says how likely a builder makes them.
 use Rattle.std.specs.Prelude.{◌≡◌, ℕ, ◌+◌, ◌^◌, ◌<◌, ◌≤◌, Bool, false, List, map}
 use Rattle.std.specs.Map.{keys_of}
 use Rattle.half_store.specs.Capacity.{buckets_of}
@@ -12,7 +12,8 @@ use Rattle.halfbrown.specs.Costs.{IsSearchCost}
 use Rattle.halfbrown.specs.Pairs.{holds_by}
 use Rattle.halfbrown.specs.State.{State, IsTableCapacity}
 
--- the buckets that a search reads which finds nothing in a table of this capacity, by the hashes of the held keys and the searched hash
+-- the buckets that a search reads if it finds nothing in a table of this capacity, by the hashes of the held keys and the
+-- searched hash
 abbrev pub miss_reads : (capacity : ℕ) → List ℕ → (wanted : ℕ) → ℕ
 miss_reads capacity hashes wanted = reach hashes (buckets_of capacity) wanted
 
@@ -20,7 +21,7 @@ miss_reads capacity hashes wanted = reach hashes (buckets_of capacity) wanted
 abbrev pub total_misses : (hashes capacity held : ℕ) → ℕ
 total_misses hashes capacity held = sum_lists hashes held (λ list. sum_below hashes (λ wanted. miss_reads capacity list wanted))
 
--- that is what a search in a table reads, by any query for a key, where it finds none
+-- that is what a search in a table reads, by any query for a key, if it finds none
 abbrev pub MissLaw : {K : Type 0} (V : Type 0) {S : Type 0} (hash : S → K → ℕ) → Type 0
 MissLaw {K} V {S} hash = (m : State K V S) (test : K → Bool) (wanted asked : ℕ) (before after : Work) → m.is_vec ≡ false → holds_by test m.pairs ≡ false
     → IsSearchCost hash wanted m (index_of test (keys_of m.pairs)) asked before after

@@ -2,8 +2,8 @@
 use Rattle.std.specs.Prelude.{◌≡◌, ℕ, ◌+◌, ◌<◌, ◌≤◌, ◌↔◌, List, [], length, Contains, IsPermutation}
 use Rattle.half_store.specs.Reach.{home, probe_distance, bucket_after, load, IsLoaded, reach}
 
--- the first `passed` buckets from the home of the hash on lie in a stretch of neighbouring buckets, not of all of them, that
--- is home to at least as many of the held hashes as it has buckets
+-- the first `passed` buckets from the home of the hash on lie in a stretch of neighbouring buckets. The stretch is not all
+-- buckets, and is home to at least as many of the held hashes as it has buckets
 pub record IsCrowded (hashes : List ℕ) (buckets hash passed : ℕ) : Type 0 where
   pub last : ℕ
   pub size : ℕ
@@ -23,15 +23,15 @@ abbrev pub ReachHistoryLaw : Type 0
 ReachHistoryLaw = (some others : List ℕ) (buckets hash : ℕ) → IsPermutation some others
     → reach some buckets hash ≡ reach others buckets hash
 
--- where there are no buckets, a probe reads none
+-- if there are no buckets, a probe reads none
 abbrev pub NoBucketsLaw : Type 0
 NoBucketsLaw = (hashes : List ℕ) (hash : ℕ) → reach hashes 0 hash ≡ 0
 
--- where no hash is held, a probe reads one bucket
+-- if no hash is held, a probe reads one bucket
 abbrev pub NothingHeldLaw : Type 0
 NothingHeldLaw = (buckets hash : ℕ) → 0 < buckets → reach [] buckets hash ≡ 1
 
--- a probe reads one bucket exactly where the home of its hash is not loaded
+-- a probe reads one bucket exactly if the home of its hash is not loaded
 abbrev pub OneBucketLaw : Type 0
 OneBucketLaw = (hashes : List ℕ) (buckets hash : ℕ) → 0 < buckets
     → (reach hashes buckets hash ≡ 1) ↔ (¬ IsLoaded hashes buckets (home buckets hash))
@@ -49,12 +49,12 @@ ShortLaw = (hashes : List ℕ) (buckets hash : ℕ) → reach hashes buckets has
 abbrev pub OnceRoundLaw : Type 0
 OnceRoundLaw = (hashes : List ℕ) (buckets hash : ℕ) → reach hashes buckets hash ≤ buckets
 
--- where fewer hashes are held than there are buckets, a probe ends at the first bucket that is not loaded
+-- if fewer hashes are held than there are buckets, a probe ends at the first bucket that is not loaded
 abbrev pub StopsLaw : Type 0
 StopsLaw = (hashes : List ℕ) (buckets hash passed : ℕ) → length hashes < buckets
     → (reach hashes buckets hash ≡ passed + 1) ↔ PassesLoaded hashes buckets hash passed
 
--- where fewer hashes are held than there are buckets, a probe passes only buckets that are crowded
+-- if fewer hashes are held than there are buckets, a probe passes only buckets that are crowded
 abbrev pub CrowdingLaw : Type 0
 CrowdingLaw = (hashes : List ℕ) (buckets hash passed : ℕ) → length hashes < buckets
     → passed < reach hashes buckets hash → IsCrowded hashes buckets hash passed

@@ -1,5 +1,5 @@
--- What holds of every run: what becomes of the form, what decides the replies, how often keys are hashed, how much capacity is left, how
--- many pairs are moved, and that runs can be split and joined.
+-- What holds of every run: what becomes of the form, what decides the replies, how often keys are hashed, how much capacity is
+-- left and how many pairs are moved. Runs can also be split and joined.
 use Rattle.std.specs.Prelude.{◌≡◌, ℕ, ◌+◌, ◌*◌, ◌≤◌, max, Bool, true, false, not, ◌&&◌, ◌==◌, List, ◌++◌, length, map, fold, sum_by, count_by, Option, None, Some, unwrap_or, if◌then◌else◌}
 use Rattle.std.specs.List.{list_any}
 use Rattle.std.specs.Option.{option_or}
@@ -37,11 +37,11 @@ module _ {K V S : Type 0} where
   abbrev pub goes_back : Step K V S → Bool
   goes_back s = is_shrink s.command && not s.before.is_vec && says_vec s.reply
 
-  -- whether the form is the vector after a step that changed it; none where the step did not
+  -- whether the form is the vector after a step that changed it; none if the step did not
   abbrev pub form_changed : ℕ → Step K V S → Option Bool
   form_changed limit s = if switches limit s then Some false else if goes_back s then Some true else None
 
-  -- whether the form is the vector after the last step that changed it; none where no step did
+  -- whether the form is the vector after the last step that changed it; none if no step did
   abbrev pub last_change : ℕ → List (Step K V S) → Option Bool
   last_change limit steps = fold (λ earlier s. option_or (form_changed limit s) earlier) None steps
 
@@ -53,7 +53,7 @@ module _ {K V S : Type 0} where
   abbrev pub most_held : State K V S → List (Step K V S) → ℕ
   most_held old steps = fold (λ most s. max most (length s.after.pairs)) (length old.pairs) steps
 
-  -- the pairs that growth or the switch moved in a step: all that were held where the capacity changed; nothing else is counted
+  -- the pairs that growth or the switch moved in a step: all that were held, if the capacity changed; nothing else is counted
   abbrev pub moved : Step K V S → ℕ
   moved s = if s.after.capacity == s.before.capacity then 0 else length s.before.pairs
 
@@ -62,11 +62,11 @@ module _ {K : Type 0} (V S : Type 0) (limit : ℕ) (eq : K → K → Bool) where
   abbrev pub EachRun : (State K V S → List (Step K V S) → State K V S → Type 0) → Type 0
   EachRun Holds = (old new : State K V S) (steps : List (Step K V S)) → StepsLead limit eq old steps new → Holds old steps new
 
-  -- the form at the end of a run is the one that the last step that changed it left, and where none did the first one
+  -- the form at the end of a run is the one that the last step that changed it left, and the first one if none did
   abbrev pub FormLaw : Type 0
   FormLaw = EachRun (λ old steps new. new.is_vec ≡ unwrap_or (last_change limit steps) old.is_vec)
 
-  -- a run without `Shrink` ends with a vector exactly where it began with one and put no pair into a full one
+  -- a run without `Shrink` ends with a vector exactly if it began with one and put no pair into a full one
   abbrev pub SwitchLaw : Type 0
   SwitchLaw = EachRun (λ old steps new. has_shrink (commands_of steps) ≡ false
       → new.is_vec ≡ (old.is_vec && not (list_any (switches limit) steps)))
@@ -79,26 +79,28 @@ module _ {K : Type 0} (V S : Type 0) (limit : ℕ) (eq : K → K → Bool) where
   abbrev pub OneSwitchLaw : Type 0
   OneSwitchLaw = EachRun (λ old steps new. has_shrink (commands_of steps) ≡ false → count_by (switches limit) steps ≤ 1)
 
-  -- two runs of the same commands from states that are alike, in which the same commands are refused for the same reasons and each
-  -- `Shrink` leaves the same form, have the same replies and end in states that are alike: capacity, builder, hashes and history decide
-  -- nothing
+  -- let two runs of the same commands begin in states that are alike, be refused the same commands for the same reasons, and
+  -- have the same form after each `Shrink`. Then they have the same replies and end in states that are alike: capacity,
+  -- builder, hashes and history decide nothing
   abbrev pub RepliesLaw : Type 0
   RepliesLaw = EachRun (λ a a_steps a_new. EachRun (λ b b_steps b_new. IsAlike a b
       → commands_of a_steps ≡ commands_of b_steps → outcomes_of a_steps ≡ outcomes_of b_steps
       → (replies_of a_steps ≡ replies_of b_steps) × IsAlike a_new b_new))
 
-  -- without `Reserve` a map has capacity for at most eight pairs more than twice the most that it held at once, or for what it had at first
+  -- without `Reserve` a map has a capacity of at most `max(start, 2 × peak + 8)`, if it held at most `peak` pairs at once
   abbrev pub CapacityLaw : Type 0
   CapacityLaw = EachRun (λ old steps new. IsValid limit eq old → has_reserve (commands_of steps) ≡ false
       → new.capacity ≤ max old.capacity (2 * most_held old steps + 8))
 
-  -- so its arrays, and the block of its table, take at most the bytes of a table with that capacity, whatever bytes a key and a value have
+  -- so its arrays, and the block of its table, take at most the bytes of a table with that capacity, whatever bytes a key and a
+  -- value have
   abbrev pub BytesLaw : Type 0
   BytesLaw = EachRun (λ old steps new. IsValid limit eq old → has_reserve (commands_of steps) ≡ false → (key value : ℕ)
       → let most : ℕ = max old.capacity (2 * most_held old steps + 8) in
       bytes key value new.is_vec new.capacity ≤ bytes key value false most)
 
-  -- without `Shrink` and `Reserve` a run moves at most two pairs for each command, and once those that it began with and twice the limit
+  -- without `Shrink` and `Reserve` a run moves at most two pairs for each command, and once those that it began with and twice
+  -- the limit
   abbrev pub MovesLaw : Type 0
   MovesLaw = EachRun (λ old steps new. IsValid limit eq old → has_shrink (commands_of steps) ≡ false
       → has_reserve (commands_of steps) ≡ false → sum_by moved steps ≤ 2 * length steps + (length old.pairs + 2 * limit))
@@ -149,7 +151,7 @@ module _ {K : Type 0} (V : Type 0) {S : Type 0} (limit : ℕ) (eq : K → K → 
   SplitLaw = (old : State K V S) (first second : List (Command K V)) (replies : List (Reply K V)) (new : State K V S) (cost : Cost)
       → RunsAtCost limit eq hash old (first ++ second) replies new cost → RunsInTwo limit eq hash old first second replies new cost
 
-  -- and where the second begins with the map that the first left, both are one run
+  -- and if the second begins with the map that the first left, both are one run
   abbrev pub JoinLaw : Type 0
   JoinLaw = (old : State K V S) (first second : List (Command K V)) (replies : List (Reply K V)) (new : State K V S) (cost : Cost)
       → RunsInTwo limit eq hash old first second replies new cost → RunsAtCost limit eq hash old (first ++ second) replies new cost

@@ -1,6 +1,6 @@
--- How seldom a search in a table reads many buckets, where all lists of hashes are equally likely.
+-- How seldom a search in a table reads many buckets, if all lists of hashes are equally likely.
 --
--- Keys do not appear in it, only the hashes that held keys may have. Nothing is said of how likely a builder makes them.
+-- Keys do not appear in it, only the hashes that held keys may have. No law says how likely a builder makes them.
 use Rattle.std.specs.Prelude.{◌≡◌, ℕ, ◌+◌, ◌≤◌, false, List, Option, map}
 use Rattle.std.specs.Map.{keys_of}
 use Rattle.half_store.specs.Capacity.{buckets_of}
@@ -9,8 +9,8 @@ use Rattle.half_mean.specs.Tail.{longest_reach, LongProbesAreRare, LongTablesAre
 use Rattle.halfbrown.specs.Costs.{IsSearchCost}
 use Rattle.halfbrown.specs.State.{State}
 
--- a search that finds nothing in a table of this capacity, which reads what a probe does (`MissLaw`), reads more than `step * halvings` buckets
--- in at most one of `2 ^ halvings` cases
+-- a search that finds nothing in a table of this capacity reads what a probe does (`MissLaw`). It reads more than
+-- `step * halvings` buckets in at most one of `2 ^ halvings` cases
 abbrev pub LongMissesAreRare : (step hashes capacity held : ℕ) → Type 0
 LongMissesAreRare step hashes capacity held = LongProbesAreRare step hashes (buckets_of capacity) held
 
@@ -24,6 +24,7 @@ MostReadsLaw {K} V {S} hash = (m : State K V S) (wanted asked : ℕ) (found : Op
     → IsSearchCost hash wanted m found asked before after
     → after.looked ≤ before.looked + most_reads m.capacity (map (hash m.builder) (keys_of m.pairs))
 
--- that is more than `step * (size + halvings)` for at most one of `2 ^ halvings` lists of hashes, where the table has at most `2 ^ size` buckets
+-- if the table has at most `2 ^ size` buckets, that is more than `step * (size + halvings)` for at most one of `2 ^ halvings`
+-- lists of hashes
 abbrev pub LongSearchesAreRare : (step hashes capacity held : ℕ) → Type 0
 LongSearchesAreRare step hashes capacity held = LongTablesAreRare step hashes (buckets_of capacity) held

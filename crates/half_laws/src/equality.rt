@@ -5,9 +5,9 @@ ghost use Rattle.half_laws.specs.ComparisonLaws.{PairsLaw, OrderLaw, ComparisonL
 use halfbrown::KeyHasher;
 use std::hash::Hash;
 
-/// Holding the same pairs is an equivalence of maps where equality of their values is one, also across limits, builders
-/// and forms. None of these decides it, nor does the order of the pairs. The value of each key decides it, or, where
-/// the lengths agree, that one map holds each pair of the other.
+/// Holding the same pairs is an equivalence of maps if equality of their values is one, also across limits, builders
+/// and forms. None of these decides it, nor does the order of the pairs. The value of each key decides it, or, if the
+/// lengths agree, that one map holds each pair of the other.
 pub fn equality_of_maps<K: Eq + Hash, V: PartialEq>()
     ensures reflexive { ReflexiveLaw K.eq V.eq }
     ensures symmetric { SymmetricLaw K.eq V.eq }
@@ -17,8 +17,8 @@ pub fn equality_of_maps<K: Eq + Hash, V: PartialEq>()
     ensures order { OrderLaw K.eq V.eq }
 {}
 
-/// What a comparison of two maps costs. Where the lengths differ, it costs nothing. Else there is at most one search
-/// for each pair of the left map, and exactly one where the maps are the same. A search in a vector hashes nothing and
+/// What a comparison of two maps costs. If the lengths differ, it costs nothing. Otherwise there is at most one search
+/// for each pair of the left map, and exactly one if the maps are the same. A search in a vector hashes nothing and
 /// reads no bucket, and a search in a table hashes once. In both forms the number of compared keys is at most the
 /// product of the lengths.
 pub fn cost_of_equality<K: Eq + Hash, V: PartialEq, S: KeyHasher<K>>()

@@ -8,7 +8,7 @@ pub fn reach_without_history()
     ensures { ReachHistoryLaw }
 {}
 
-/// A probe reads one bucket where nothing is held, and exactly where the home bucket is not loaded. It reads at most one
+/// A probe reads one bucket if nothing is held, and exactly if the home bucket is not loaded. It reads at most one
 /// bucket more than there are held hashes, and no more than there are buckets.
 pub fn bounds_of_reach()
     ensures no_buckets { NoBucketsLaw }
@@ -20,7 +20,7 @@ pub fn bounds_of_reach()
 {}
 
 /// A probe passes loaded buckets and ends at the first one that is not loaded. The buckets that it passes lie in a stretch
-/// of neighbouring buckets, not of all of them, that is home to at least as many held hashes as it has buckets.
+/// of neighbouring buckets. The stretch is not all buckets, and is home to at least as many held hashes as it has buckets.
 pub fn crowding_of_a_probe()
     ensures stops { StopsLaw }
     ensures crowded { CrowdingLaw }

@@ -1,29 +1,29 @@
-//! What holds of every run, in the words of `run`'s contract: steps lead from one map to another. These functions do nothing: the
-//! laws are their contracts.
+//! What holds of every run, in the words of the contract of `run`: steps lead from one map to another. These functions do
+//! nothing: the laws are their contracts.
 ghost use Rattle.half_laws.specs.RunLaws.{FormLaw, UnswitchedLaw, SwitchLaw, TableLaw, NothingHashedLaw, RepliesLaw, SplitLaw, JoinLaw};
 ghost use Rattle.half_laws.specs.RunLaws.{HashesLaw, OneSwitchLaw, AmortizedHashesLaw, CapacityLaw, BytesLaw, MovesLaw};
 
 use halfbrown::{KeyHasher, Limit};
 use std::hash::Hash;
 
-/// A run ends in the form that its last change of form left: a table after a pair was put into a full vector, a vector
-/// after a `Shrink` with no more pairs than the limit. Where no command changed the form, it stays. A run that begins
-/// with a vector and puts no pair into a full one hashes nothing.
+/// A run ends in the form that its last change of form left. That is a table after a pair was put into a full vector,
+/// and a vector after a `Shrink` with no more pairs than the limit. If no command changed the form, it stays. A run
+/// that begins with a vector and puts no pair into a full one hashes nothing.
 pub fn form_of_a_run<K: Eq + Hash, V, S: KeyHasher<K>, L: Limit>()
     ensures form { FormLaw V S L.LIMIT K.eq }
     ensures unswitched { UnswitchedLaw V S L.LIMIT K.eq S.hash }
 {}
 
-/// Without `Shrink` no run goes back: it ends with a vector exactly where it began with one and put no pair into a full
-/// one, and then it has hashed nothing. Once a table, always a table.
+/// Without `Shrink` no run goes back: it ends with a vector exactly if it began with one and put no pair into a full
+/// one. Then it has hashed nothing. Once a table, always a table.
 pub fn form_without_shrink<K: Eq + Hash, V, S: KeyHasher<K>, L: Limit>()
     ensures switched { SwitchLaw V S L.LIMIT K.eq }
     ensures stays_a_table { TableLaw V S L.LIMIT K.eq }
     ensures nothing_hashed { NothingHashedLaw V S L.LIMIT K.eq S.hash }
 {}
 
-/// The replies of a run are decided by the form, the pairs in order, the refusals and the form that each `Shrink` left:
-/// capacity, builder, hashes and history decide nothing.
+/// The form, the pairs in order, the refusals and the form that each `Shrink` left decide the replies of a run.
+/// Capacity, builder, hashes and history decide nothing.
 pub fn replies_of_a_run<K: Eq + Hash, V, S: KeyHasher<K>, L: Limit>()
     ensures { RepliesLaw V S L.LIMIT K.eq }
 {}
@@ -43,17 +43,17 @@ pub fn hashes_of_a_run<K: Eq + Hash, V, S: KeyHasher<K>, L: Limit>()
     ensures amortized { AmortizedHashesLaw V S L.LIMIT K.eq S.hash }
 {}
 
-/// After a run without `Reserve` the capacity is at most eight more than twice the most pairs that the map held at
-/// once, or what it was at first, and its memory is at most that of a table with that capacity. What was inserted and
-/// removed on the way leaves no more.
+/// If at most `peak` pairs were held at once, a run without `Reserve` leaves a capacity of at most
+/// `max(start, 2 × peak + 8)`. The memory is at most that of a table with that capacity. What was inserted and removed
+/// on the way leaves no more.
 pub fn capacity_of_a_run<K: Eq + Hash, V, S: KeyHasher<K>, L: Limit>()
     ensures capacity { CapacityLaw V S L.LIMIT K.eq }
     ensures bytes { BytesLaw V S L.LIMIT K.eq }
 {}
 
-/// Without `Shrink` and `Reserve` the pairs that are held where a command changes the capacity, by growth or the switch,
-/// add up to at most 2n + (pairs at the start) + 2 × limit in a run of n commands. No clause says how many of them the
-/// code then moves. What a removal moves is not counted.
+/// Without `Shrink` and `Reserve` the pairs that are held at each change of the capacity, by growth or the switch, add
+/// up. In a run of n commands they are at most 2n + (pairs at the start) + 2 × limit. No clause says how many of them
+/// the code then moves. What a removal moves is not counted.
 pub fn moves_of_a_run<K: Eq + Hash, V, S: KeyHasher<K>, L: Limit>()
     ensures { MovesLaw V S L.LIMIT K.eq }
 {}

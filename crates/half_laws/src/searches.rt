@@ -8,10 +8,10 @@ ghost use Rattle.half_laws.specs.TailLaws.{LongMissesAreRare, MostReadsLaw, Long
 use halfbrown::{KeyHasher, Limit};
 use std::hash::Hash;
 
-/// In two maps of the same form, capacity and builder that hold the same pairs in any order, a search that finds
-/// nothing costs exactly the same, whatever was inserted and removed before: by a key or any query for one, and also by a
-/// known hash. So does an insertion of a key that is not held. A command's cost has the same bounds in both, unless it
-/// finds its key in a vector: then the order of the pairs decides how many keys are compared, and nothing else.
+/// Take two maps of the same form, capacity and builder that hold the same pairs in any order, whatever was inserted and
+/// removed before. A search that finds nothing costs exactly the same in both: by a key or any query for one, and also by
+/// a known hash. So does an insertion of a key that is not held. A command's cost has the same bounds in both, unless it
+/// finds its key in a vector. Then the order of the pairs decides how many keys are compared, and nothing besides.
 pub fn cost_without_history<K: Eq + Hash, V, S: KeyHasher<K>, L: Limit>()
     ensures search { HistoryLaw V S.hash }
     ensures insertion { InsertionHistoryLaw V L.LIMIT K.eq S.hash }
@@ -20,10 +20,10 @@ pub fn cost_without_history<K: Eq + Hash, V, S: KeyHasher<K>, L: Limit>()
     ensures buckets { CommandBucketsLaw V L.LIMIT K.eq S.hash }
 {}
 
-/// The buckets that a search in a table passes, by any query for a key, lie in a stretch of neighbouring buckets, not of
-/// all of them, that is home to at least as many held pairs as it has buckets. So do those that an insertion passes. An
-/// insertion that makes the table grow reads two unsuccessful probes, one before the growth and one after it, and both
-/// pass only such buckets.
+/// The buckets that an insertion passes, or a search in a table by any query for a key, lie in a stretch of
+/// neighbouring buckets. The stretch is not all buckets, and is home to at least as many held pairs as it has buckets.
+/// An insertion that makes the table grow reads two unsuccessful probes, one before the growth and one after it, and
+/// both pass only such buckets.
 pub fn crowding_of_a_search<K: Eq + Hash, V, S: KeyHasher<K>, L: Limit>()
     ensures search { CrowdedSearchLaw V L.LIMIT K.eq S.hash }
     ensures insertion { CrowdedInsertionLaw V L.LIMIT K.eq S.hash }
@@ -32,9 +32,9 @@ pub fn crowding_of_a_search<K: Eq + Hash, V, S: KeyHasher<K>, L: Limit>()
     ensures probe { CrowdedProbeLaw V S.hash }
 {}
 
-/// How many buckets a search that finds nothing reads on average, by any query for a key, where all lists of the hashes of held
-/// keys are equally likely, and all searched hashes: at most 2.5 in a table that is half full, and 8.5 in any table.
-/// The hashes alone appear in it, and no keys. `mean_of_a_probe` of `half_mean` has the exact mean.
+/// How many buckets a search that finds nothing reads on average, by any query for a key. It is at most 2.5 in a table that is
+/// half full, and 8.5 in any table. This takes all lists of the hashes of held keys as equally likely, and all searched hashes.
+/// Only hashes appear in it, and no keys. `mean_of_a_probe` of `half_mean` has the exact mean.
 pub fn mean_of_a_miss<K: Eq + Hash, V, S: KeyHasher<K>>()
     ensures reads { MissLaw V S.hash }
     ensures total { MissTotalLaw }
@@ -42,17 +42,17 @@ pub fn mean_of_a_miss<K: Eq + Hash, V, S: KeyHasher<K>>()
     ensures within_capacity { CapacityMissLaw 17 2 }
 {}
 
-/// How seldom a search that finds nothing reads many buckets, where all lists of the hashes of held keys are equally likely, and
-/// all searched hashes: more than `4 * s` in at most one of `2^s` cases in a table that is at most half full, and more than
-/// `20 * s` in any table. Nothing is said of how likely a builder makes a list of hashes.
+/// How seldom a search that finds nothing reads many buckets, if all lists of the hashes of held keys are equally likely, and
+/// all searched hashes. In at most one of `2^s` cases it reads more than `4 * s` if the table is at most half full, or `20 * s`
+/// in any table. No clause says how likely a builder makes a list of hashes.
 pub fn tail_of_a_miss()
     ensures half_full { InHalfFullTables (LongMissesAreRare 4) }
     ensures within_capacity { InTables (LongMissesAreRare 20) }
 {}
 
 /// How seldom any search in a table reads many buckets, by any query for a key, whatever it finds and whatever was inserted and
-/// removed before: in a table of at most `2^b` buckets no search reads more than `4 * (b + s)` where it is at most half full, and
-/// `20 * (b + s)` otherwise, but for at most one of `2^s` lists of the hashes of held keys.
+/// removed before. In a table of at most `2^b` buckets no search reads more than `4 * (b + s)` if it is at most half full, and
+/// `20 * (b + s)` otherwise. At most one of `2^s` lists of the hashes of held keys is an exception.
 pub fn longest_search<K: Eq + Hash, V, S: KeyHasher<K>>()
     ensures reads { MostReadsLaw V S.hash }
     ensures half_full { InHalfFullTables (LongSearchesAreRare 4) }
@@ -60,8 +60,8 @@ pub fn longest_search<K: Eq + Hash, V, S: KeyHasher<K>>()
 {}
 
 /// A search in a table that finds its key reads as many buckets each time, by any query for the key. The searches for all held
-/// keys, one each, read together exactly as many as the insertions of the pairs into an empty table of the same capacity, in
-/// any order. So they read as many in two maps of the same capacity and builder that hold the same pairs in any order, whatever
+/// keys, one each, together read exactly as many as the insertions of the pairs, in any order, into an empty table of the same
+/// capacity. So they read as many in two maps of the same capacity and builder that hold the same pairs in any order, whatever
 /// was inserted and removed before.
 pub fn hits_without_history<K: Eq + Hash, V, S: KeyHasher<K>, L: Limit>()
     ensures hit { HitLaw V S.hash }
@@ -70,9 +70,9 @@ pub fn hits_without_history<K: Eq + Hash, V, S: KeyHasher<K>, L: Limit>()
     ensures history { HitHistoryLaw V L.LIMIT K.eq S.hash }
 {}
 
-/// How many buckets a search that finds its key reads on average, over all held keys, where all lists of their hashes are
-/// equally likely: at most 1.5 in a table that is half full, and 2.5 in any table. By `hits_without_history` it is what
-/// insertions read that fill the table; `mean_of_a_filling` of `half_mean` has the bound at other loads.
+/// How many buckets a search that finds its key reads on average, over all held keys. It is at most 1.5 in a table that
+/// is half full, and 2.5 in any table. This takes all lists of their hashes as equally likely. By `hits_without_history`
+/// it is what the insertions that fill the table read; `mean_of_a_filling` of `half_mean` has the bound at other loads.
 pub fn mean_of_a_hit()
     ensures half_full { HalfFullHitLaw 3 2 }
     ensures within_capacity { CapacityHitLaw 5 2 }

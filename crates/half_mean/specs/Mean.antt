@@ -1,7 +1,7 @@
--- How many buckets a probe reads on average, where all lists of held hashes are equally likely.
+-- How many buckets a probe reads on average, if all lists of held hashes are equally likely.
 --
--- Nothing is said of how likely a hash function makes a list. A mean is said without fractions, as the total over all cases beside
--- the number of cases.
+-- No law says how likely a hash function makes a list. A mean is stated without fractions, as the total over all cases and the
+-- number of cases.
 use Rattle.std.specs.Prelude.{◌≡◌, ℕ, zero, suc, ◌+◌, ◌-◌, ◌*◌, ◌^◌, ◌<◌, ◌≤◌, List, [], ◌∷◌, length}
 use Rattle.half_store.specs.Capacity.{IsBucketCount, capacity_of}
 use Rattle.half_store.specs.Reach.{reach}
@@ -34,12 +34,12 @@ filling_cases hashes held = held * hashes ^ held
 abbrev pub MeanIsAtMost : (total cases over under : ℕ) → Type 0
 MeanIsAtMost total cases over under = total * under ≤ over * cases
 
--- an unsuccessful probe reads at most `over / under` buckets on average, where all lists of `held` hashes below `hashes` are equally likely,
--- and all searched hashes below `hashes`
+-- an unsuccessful probe reads at most `over / under` buckets on average, if all lists of `held` hashes below `hashes` are
+-- equally likely, and all searched hashes below `hashes`
 abbrev pub MeanReachIsAtMost : (hashes buckets held over under : ℕ) → Type 0
 MeanReachIsAtMost hashes buckets held over under = MeanIsAtMost (total_reach hashes buckets held) (reach_cases hashes held) over under
 
--- so does an insertion, of those that put a list of `held` hashes into an empty table, where all such lists are equally likely
+-- so does an insertion, of those that put a list of `held` hashes into an empty table, if all such lists are equally likely
 abbrev pub MeanFillingIsAtMost : (hashes buckets held over under : ℕ) → Type 0
 MeanFillingIsAtMost hashes buckets held over under = MeanIsAtMost (total_filling hashes buckets held) (filling_cases hashes held) over under
 
@@ -60,7 +60,7 @@ falling (suc number) (suc factors) = suc number * falling number factors
 unfoldable pub knuth_sum : (weight : ℕ → ℕ) → (buckets held : ℕ) → ℕ
 knuth_sum weight buckets held = sum_below (held + 1) (λ k. weight k * falling held k * buckets ^ (held + 1 - k))
 
--- the exact mean, where the hashes are the homes: half of 1 and of Knuth's sum
+-- the exact mean, if the hashes are the homes: half of 1 and of Knuth's sum
 abbrev pub ExactMeanLaw : (weight : ℕ → ℕ) → Type 0
 ExactMeanLaw weight = (buckets held : ℕ) → held < buckets
     → total_reach buckets buckets held * 2 ≡ reach_cases buckets held + knuth_sum weight buckets held
@@ -71,7 +71,7 @@ KnuthRecursionLaw weight = (buckets held : ℕ) → held + 1 < buckets
     → (buckets - (held + 1)) * knuth_sum weight buckets (held + 1)
     ≡ buckets ^ (held + 3) + (held + 1) * (buckets - (held + 2)) * knuth_sum weight buckets held
 
--- where each bucket is the home of `share` hashes, the mean is that of homes
+-- if each bucket is the home of `share` hashes, the mean is that of homes
 abbrev pub HomesMeanLaw : Type 0
 HomesMeanLaw = (share buckets held : ℕ) → 0 < buckets
     → total_reach (share * buckets) buckets held ≡ share ^ (held + 1) * total_reach buckets buckets held
@@ -81,7 +81,7 @@ abbrev pub MeanReachLaw : Type 0
 MeanReachLaw = (share buckets held : ℕ) → held < buckets
     → MeanReachIsAtMost (share * buckets) buckets held ((buckets - held) ^ 2 + buckets ^ 2) (2 * (buckets - held) ^ 2)
 
--- the law holds of all tables of which at least one bucket in `per_empty` is empty, where each bucket is the home of `share` hashes
+-- the law holds of all tables with at least one empty bucket in `per_empty`, if each bucket is the home of `share` hashes
 abbrev pub AtLoad : (per_empty : ℕ) (Law : (hashes buckets held : ℕ) → Type 0) → Type 0
 AtLoad per_empty Law = (share buckets held : ℕ) → held < buckets → buckets ≤ per_empty * (buckets - held) → Law (share * buckets) buckets held
 
@@ -94,7 +94,7 @@ abbrev pub UpToCapacity : (Law : (hashes buckets held : ℕ) → Type 0) → Typ
 UpToCapacity Law = (bits buckets held : ℕ) → 0 < buckets → IsBucketCount buckets → buckets ≤ 2 ^ bits → held ≤ capacity_of buckets
     → Law (2 ^ bits) buckets held
 
--- where at most half of the buckets are full, it is at most `over / under`
+-- if at most half of the buckets are full, it is at most `over / under`
 abbrev pub HalfFullMeanLaw : (over under : ℕ) → Type 0
 HalfFullMeanLaw over under = UpToHalf (λ hashes buckets held. MeanReachIsAtMost hashes buckets held over under)
 

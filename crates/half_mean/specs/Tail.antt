@@ -1,5 +1,5 @@
--- How seldom a probe reads many buckets, where all lists of held hashes are equally likely. Nothing is said of how likely a hash function
--- makes a list, as in `Mean`.
+-- How seldom a probe reads many buckets, if all lists of held hashes are equally likely. As in `Mean`, no law says how likely a
+-- hash function makes a list.
 use Rattle.std.specs.Prelude.{ℕ, zero, suc, ◌+◌, ◌-◌, ◌*◌, ◌^◌, ◌≤◌, List, max, nat_lt, if◌then◌else◌}
 use Rattle.half_store.specs.Reach.{reach}
 use Rattle.half_mean.specs.Mean.{sum_below, sum_lists, reach_cases, MeanIsAtMost, AtLoad}
@@ -21,7 +21,8 @@ longest_reach list buckets (suc home) = max (reach list buckets home) (longest_r
 unfoldable pub long_tables : (hashes buckets held most : ℕ) → ℕ
 long_tables hashes buckets held most = sum_lists hashes held (λ list. reads_more_than most (longest_reach list buckets buckets))
 
--- if one bucket in `per_empty` is empty, each bucket more is read in at most the part `1 - 1 / decay` of the cases: 5/6 for 2, and 27/28 for 4
+-- if one bucket in `per_empty` is empty, each bucket more is read in at most the part `1 - 1 / decay` of the cases. That is 5/6
+-- for 2, and 27/28 for 4
 abbrev pub decay : (per_empty : ℕ) → ℕ
 decay per_empty = per_empty * (2 * per_empty - 1)
 
@@ -44,7 +45,8 @@ abbrev pub LongProbesAreRare : (step hashes buckets held : ℕ) → Type 0
 LongProbesAreRare step hashes buckets held = (halvings : ℕ)
     → long_probes hashes buckets held (step * halvings) * 2 ^ halvings ≤ reach_cases hashes held
 
--- some probe of a table of at most `2 ^ size` buckets reads more than `step * (size + halvings)` for at most one of `2 ^ halvings` lists
+-- some probe of a table of at most `2 ^ size` buckets reads more than `step * (size + halvings)` for at most one of
+-- `2 ^ halvings` lists
 abbrev pub LongTablesAreRare : (step hashes buckets held : ℕ) → Type 0
 LongTablesAreRare step hashes buckets held = (size halvings : ℕ) → buckets ≤ 2 ^ size
     → long_tables hashes buckets held (step * (size + halvings)) * 2 ^ halvings ≤ hashes ^ held

@@ -3,7 +3,7 @@ use Rattle.std.proofs.Common.{◌≡◌, ℕ, Bool, List, [], ◌∷◌, ◌++�
 use Rattle.std.proofs.lemmas.Fn.{FoldsTo-push}
 use Rattle.serde.specs.Event.{Event}
 use Rattle.serde.specs.declared.deserializer.Deserializer.{Deserializer}
-use Rattle.halfbrown.specs.FromIter.{put_all}
+use Rattle.halfbrown.specs.Collect.{put_all}
 use Rattle.halfbrown.specs.Pairs.{put}
 use Rattle.halfbrown.specs.State.{State}
 use Rattle.half_serde.specs.Reading.{ReadsEntry, ReadsPairs}

@@ -4,7 +4,7 @@ use Rattle.std.specs.List.{FoldsTo}
 use Rattle.serde.specs.Event.{Event, map_begins, map_ends, key_begins}
 use Rattle.serde.specs.Steps.{Gives}
 use Rattle.serde.specs.declared.deserializer.Deserializer.{Deserializer}
-use Rattle.halfbrown.specs.FromIter.{collected}
+use Rattle.halfbrown.specs.Collect.{collected}
 use Rattle.halfbrown.specs.State.{State}
 
 -- what an impl of serde's traits reads: they say nothing of it, and of the reader that it leaves
@@ -23,7 +23,8 @@ module _ {F E M : Type 0} (gives : F → List ℕ → Event → F → Type 0) wh
     ReadsEntry old pair new = (begun : Deserializer F E M) × Gives gives old key_begins begun × ReadsParts key value begun pair new
 
     module _ {S : Type 0} (eq : K → K → Bool) (is_default : S → Type 0) where
-      -- entries are read one after another, and the map has the pairs that they gave: of equal keys the first, with the last value
+      -- entries are read one after another, and the map has the pairs that they gave; the first of equal keys stays, with the
+      -- last value
       pub record ReadsPairs (old : Deserializer F E M) (map : State K V S) (new : Deserializer F E M) : Type 0 where
         pub gave : List (K × V)
         pub entries : FoldsTo ReadsEntry old gave new

@@ -39,11 +39,11 @@ fn write_entry<K: Serialize, V: Serialize, S: Serializer>(
     value.serialize(out)
 }
 
-/// Reads a map, with the default of the builder's type. Each entry of the text is inserted, in order. Where memory is
-/// refused, it fails with what the format has for that.
+/// Reads a map, with the default of the builder's type. Each entry of the text is inserted, in order. If memory is
+/// refused, it fails with the format's error for that.
 ///
-/// The clause says that a map begins and ends, and that for each pair that the reading gave an entry begins. Which pair
-/// that is, and how far its reading goes, it leaves open (`Anything`), since serde's traits do. The loop behind this is
+/// The clause says that a map begins and ends, and that an entry begins for each pair that the reading gave. It leaves
+/// open which pair that is, and how far its reading goes (`Anything`), since serde's traits do. The loop behind this is
 /// proved for any reading of keys and values, and passes over no entry.
 pub fn deserialize<
     'de,

@@ -1,4 +1,4 @@
-//! Maps as members of what `serde` writes and reads: a JSON object, for one, with its members in order.
+//! Maps as members of what `serde` writes and reads, for example as a JSON object with its members in order.
 //!
 //! ```
 //! #[derive(Drop, Serialize, Deserialize)]
@@ -13,11 +13,11 @@
 //! assert_eq!(rt; serde_json::to_string(alloc, &order)?.as_str(), text);
 //! ```
 //!
-//! A field that is a map names the module `as_map`. Where the map itself has to implement the traits, as a value of another
-//! map or as a whole document, it stands in a `Map`, or, with texts as keys, in an `Object`.
+//! A field that is a map names the module `as_map`. As a value of another map, or as a whole document, the map itself has
+//! to implement the traits. Then it stands in a `Map`, or, with texts as keys, in an `Object`.
 //!
 //! Pairs are written in the order of the map, and read in the order of the text. Of equal keys the last value stands at
-//! the place of the first key, as `insert` has it.
+//! the place of the first key, as with `insert`.
 #![tactic(auto)]
 
 pub mod as_map;

@@ -19,7 +19,7 @@ use std::hash::{BuildHasher, Hash};
 /// A map whose keys are texts, as a JSON object has them.
 pub type Object<V, S = DefaultHashBuilder, L = AtMost<32>> = Map<String, V, S, L>;
 
-/// A map that is written and read where a type has to implement the traits itself. The map is its only field:
+/// A map for places where a type has to implement the traits itself. The map is its only field:
 ///
 /// ```
 /// let mut stock: Object<u64> = serde_json::from_str(alloc, r#"{"pen":2}"#)?;

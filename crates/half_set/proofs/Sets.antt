@@ -16,9 +16,9 @@ use Rattle.std.specs.Map.Calls.{CallableOnEachPair, RetainsPairs, SomeCallAtPair
 use Rattle.std.specs.Map.Iter.{TakesFirst, ShowsInOrder, deref}
 use Rattle.std.specs.Option.{option_eq}
 use Rattle.std.specs.Set.{is_member, remove_key, IsUnion}
-use Rattle.halfbrown.specs.CallerLoops.{add_key, add_keys}
+use Rattle.halfbrown.specs.ByKey.{add_key, add_keys}
 use Rattle.halfbrown.specs.Equality.{same_lookup, same_pairs-Decides}
-use Rattle.halfbrown.specs.Growth.{IsRefusal, insert_needs}
+use Rattle.halfbrown.specs.Growth.{IsRefusal, capacity_for_insert}
 use Rattle.halfbrown.specs.Refusal.{refusal_of}
 use Rattle.halfbrown.specs.State.{State}
 use Rattle.halfbrown.specs.declared.Refusal.{Refusal}
@@ -73,7 +73,7 @@ module _ {T : Type 0} {eq : T → T → Bool} (laws : IsEquivalence eq) where
   same_at xs ys q = rw (← held_member xs q, ← held_member ys q)
       (same_either (value_of eq (with_nothing xs) q) (value_of eq (with_nothing ys) q))
 
-  -- two lists have the same values exactly where each value is a member of both or of neither
+  -- two lists have the same values exactly if each value is a member of both or of neither
   pub same_members : (xs ys : List T) → IsTrue (same_values eq xs ys) ↔ ((value : T) → is_member eq xs value ≡ is_member eq ys value)
   same_members xs ys =
       let law = same_pairs-Decides eq (λ x y. true) laws (with_nothing xs) (with_nothing ys) in
@@ -116,12 +116,12 @@ shows_in_order = from_front (TakesFirst deref) deref (λ s. s) (λ s t h. ap len
 
 -- an insertion is refused for the reason that one pair more than there are would be
 pub refusal_is : {K V S : Type 0} (limit : ℕ) (eq : K → K → Bool) (m : State K V S) (k : K) (why : Refusal)
-    → IsRefusal (insert_needs limit eq m k) why → why ≡ refusal_of (length (keys_of m.pairs) + 1)
+    → IsRefusal (capacity_for_insert limit eq m k) why → why ≡ refusal_of (length (keys_of m.pairs) + 1)
 refusal_is limit eq m k why is = grind (arith, common_steps, length-keys_of m.pairs)
 
 -- a held key is refused only by the switch of a full vector
 pub full_where_held : {T V S : Type 0} (limit : ℕ) (eq : T → T → Bool) (m : State T V S) (x : T) (why : Refusal)
-    → IsRefusal (insert_needs limit eq m x) why → is_member eq (keys_of m.pairs) x ≡ true → length (keys_of m.pairs) ≡ limit
+    → IsRefusal (capacity_for_insert limit eq m x) why → is_member eq (keys_of m.pairs) x ≡ true → length (keys_of m.pairs) ≡ limit
 full_where_held limit eq m x why is held = grind (arith, common_steps, holds_by-any (eq x) m.pairs, length-keys_of m.pairs)
 
 pub ruleset set_facts = (refusal_is, full_where_held, union_added, others_removed, keys_removed, keys_taken, shows_in_order, length-filter, count_by-le-length)

@@ -12,7 +12,7 @@ use Rattle.halfbrown.specs.Pairs.{index_of, swap_remove_at}
 abbrev pub with_nothing : {T : Type 0} → List T → List (T × Unit {0})
 with_nothing xs = map (λ x. (x, tt)) xs
 
--- where a value passes the test, it is gone and the last value takes its index; else the same values
+-- if a value passes the test, it is gone and the last value takes its index; otherwise the same values
 abbrev pub take_out_value : {T : Type 0} → (T → Bool) → List T → List T
 take_out_value test xs = option_map_or (swap_remove_at xs) (index_of test xs) xs
 
@@ -21,7 +21,8 @@ module _ {T : Type 0} (eq : T → T → Bool) where
   abbrev pub selected : Bool → List T → List T → List T
   selected members others xs = filter (λ x. if members then is_member eq others x else not (is_member eq others x)) xs
 
-  -- after the value that passes the test is removed: whether there was one; none passes; each other value is a member as before
+  -- after the value that passes the test is removed: whether there was one; none passes now; each other value is a member as
+  -- before
   pub record RemovesValue (test : T → Bool) (old : List T) (removed : Bool) (new : List T) : Type 0 where
     pub was_member : removed ≡ list_any test old
     pub gone : list_any test new ≡ false

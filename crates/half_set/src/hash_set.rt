@@ -12,8 +12,8 @@ ghost use Rattle.std.specs.List.Retain.{IsFiltered};
 ghost use Rattle.std.specs.Map.{keys_of};
 ghost use Rattle.std.specs.Map.Iter.{GivesInOrder, ShowsInOrder, deref};
 ghost use Rattle.std.specs.Set.{is_member, remove_key, IsUnion};
-ghost use Rattle.halfbrown.specs.CallerLoops.{add_key, add_keys, first_of_each};
-ghost use Rattle.halfbrown.specs.FromIter.{Gives};
+ghost use Rattle.halfbrown.specs.ByKey.{add_key, add_keys, first_of_each};
+ghost use Rattle.halfbrown.specs.Collect.{Gives};
 ghost use Rattle.halfbrown.specs.Refusal.{refusal_of};
 ghost use Rattle.half_set.specs.Sets.{same_values, same_values_equiv, take_out_value, RemovesValue};
 
@@ -23,9 +23,9 @@ use std::alloc::Global;
 use std::hash::Hash;
 use std::marker::Model;
 
-/// A set. Up to 32 values stand in a vector, which is searched by `==`, and nothing is hashed. An insertion into a vector of 32,
-/// even of a held value, moves them into a hash table, where a search hashes the value once; no removal moves them back.
-/// Contracts see a set as the list of its values, in order.
+/// A set. Up to 32 values stand in a vector, which is searched by `==`, and nothing is hashed. An insertion into a vector of
+/// 32, even of a held value, moves them into a hash table. A search in the table hashes the value once. No removal moves the
+/// values back. Contracts see a set as the list of its values, in order.
 ///
 /// ```
 /// let mut names = HashSet::<String>::new(alloc);
@@ -108,8 +108,8 @@ impl<T: Eq + Hash> HashSet<T> {
         self.map.keys()
     }
 
-    /// Returns the values of this set, and then those that the other has beside them, each in order. It costs one search in this
-    /// set for each value of the other.
+    /// Returns the values of this set, and then those that the other has besides them, each in order. It costs one search in
+    /// this set for each value of the other.
     ///
     /// ```
     /// let all = seen.union(&others).copied().collect::<Vec<u64>>(alloc)?;
@@ -125,7 +125,8 @@ impl<T: Eq + Hash> HashSet<T> {
         }
     }
 
-    /// Returns the values that the other set has too, in the order of this one. It costs one search in the other for each value.
+    /// Returns the values that the other set has too, in the order of this one. It costs one search in the other for each
+    /// value.
     ///
     /// ```
     /// let mut both = seen.intersection(&others);
@@ -179,8 +180,8 @@ impl<T: Eq + Hash> HashSet<T> {
 impl<T: Eq + Hash + Drop> HashSet<T> {
     /// Returns a set of these items: of equal ones the first, in order.
     ///
-    /// The items must end. Fails as `insert` does, and then drops what was collected and the remaining items. It costs one search
-    /// for each item, and the growth of the set.
+    /// The items must end. It fails as `insert` does, and then drops what was collected and the remaining items. It costs one
+    /// search for each item, and the growth of the set.
     ///
     /// ```
     /// let set = HashSet::<u64>::from_iter(alloc, [3, 1, 3, 2])?;
@@ -204,11 +205,11 @@ impl<T: Eq + Hash + Drop> HashSet<T> {
         Ok(set)
     }
 
-    /// Inserts a value, and returns whether it is new. A new value comes last. Where an equal one is in the set, that one stays,
+    /// Inserts a value, and returns whether it is new. A new value comes last. If an equal one is in the set, that one stays,
     /// and the given value is dropped.
     ///
-    /// It may fail for a new value, and for a held one only where there are exactly 32. Then nothing changes, and the given
-    /// value is dropped. It costs one search, and where a vector of 32 becomes a table, each value is hashed once.
+    /// It may fail for a new value, and for a held one only if there are exactly 32. On error nothing changes, and the
+    /// given value is dropped. It costs one search, and when a vector of 32 becomes a table, each value is hashed once.
     ///
     /// ```
     /// assert!(rt; seen.insert(3)?);
@@ -227,8 +228,8 @@ impl<T: Eq + Hash + Drop> HashSet<T> {
 
     /// Inserts each item, in order.
     ///
-    /// The items must end. Fails as `insert` does, and then the items before the refused one stay, and the remaining ones are
-    /// dropped. It costs one search for each item, and the growth of the set.
+    /// The items must end. It fails as `insert` does, and then the items before the refused one stay, and the remaining ones
+    /// are dropped. It costs one search for each item, and the growth of the set.
     ///
     /// ```
     /// seen.extend([2, 3, 4])?;
@@ -266,7 +267,7 @@ impl<T: Eq + Hash + Drop> HashSet<T> {
     }
 
     /// Removes the value that equals this one, and returns whether there was one. The others keep their order. It costs one
-    /// search, and then a step for each value behind it, and in a table one for each bucket.
+    /// search, then a step for each value behind it, and in a table one for each bucket.
     ///
     /// ```
     /// assert!(rt; seen.shift_remove(&1));
@@ -291,8 +292,8 @@ impl<T: Eq + Hash + Drop> HashSet<T> {
         self.map.clear();
     }
 
-    /// Keeps the values that `keep` accepts, in their order. It is called once at each, from first to last. Nothing is hashed or
-    /// compared, and no memory is taken.
+    /// Keeps the values that `keep` accepts, in their order. `keep` is called once for each, from first to last. Nothing is
+    /// hashed or compared, and no memory is taken.
     ///
     /// ```
     /// seen.retain(|value| *value > 1);
@@ -311,8 +312,8 @@ impl<T: Eq + Hash> PartialEq for HashSet<T> {
 
     ghost laws = { partial_equiv_from_equiv (same_values_equiv T.eq T.Eq.laws) };
 
-    /// Returns whether both sets have the same values, in any order. Where they have not as many it costs nothing, and else at
-    /// most one search in the other for each value.
+    /// Returns whether both sets have the same values, in any order. It costs nothing if the numbers of values differ, and
+    /// otherwise at most one search in the other for each value.
     ///
     /// ```
     /// let same = HashSet::<u64>::from_iter(alloc, [2, 1])?;

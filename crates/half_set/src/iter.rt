@@ -67,7 +67,7 @@ impl<'a, T: Eq + Hash> Iterator for Selected<'a, T> {
     }
 }
 
-/// The values of one set, and then those that another has beside them: what `union` returns.
+/// The values of one set, and then those that another has besides them: what `union` returns.
 #[derive(Drop)]
 pub struct Union<'a, T: Eq + Hash> {
     pub(crate) first: Keys<'a, T, ()>,

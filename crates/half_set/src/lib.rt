@@ -1,4 +1,4 @@
-//! A set: values of which no two are equal. They keep the order in which they were inserted until `remove` moves the last one.
+//! A set: no two values are equal. They keep the order in which they were inserted until `remove` moves the last one.
 //!
 //! ```
 //! let alloc = rt.alloc();

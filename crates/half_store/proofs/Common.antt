@@ -16,6 +16,6 @@ pub use Rattle.half_store.specs.Reach.{reach, filling_reach, probe_distance, buc
 pub use Rattle.half_store.specs.Search.{ReturnsAt}
 pub use Rattle.half_store.specs.Slots.{slots_from, slot_at, hash_of_word, EachOnce, HasVacantSlot, ProbeInvariant, stored, IsSlotVacancy, distance_from_home}
 pub use Rattle.half_store.specs.Store.{vector_of, table_of}
-pub use Rattle.half_store.specs.Table.{TableState, TableSearch, IsIndexedWithGap, IsEmptyBeside, state_of_words, IsIndexed}
+pub use Rattle.half_store.specs.Table.{TableState, TableSearch, IsIndexedWithGap, IsOtherEmpty, state_of_words, IsIndexed}
 pub use Rattle.half_store.specs.Words.{AreWordsFor, words_of}
-pub use Rattle.half_store.specs.Work.{Work, probe_reads, looked_more, ReadsWithin, removal_reads, compared_more}
+pub use Rattle.half_store.specs.Work.{Work, reads_up_to, looked_more, ReadsWithin, removal_reads, compared_more}

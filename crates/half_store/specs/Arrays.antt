@@ -12,10 +12,10 @@ arrays_of is_vec capacity =
     let block : ℕ = if is_vec then 0 else 56 in
     record { keys = capacity; values = capacity; hashes = held; words = buckets_of held; word_size = word_size held; table = block }
 
--- the bytes of all of them, where a key has `key` of them, a value `value`, and a hash eight
-abbrev pub bytes_of : ℕ → ℕ → Arrays → ℕ
-bytes_of key value a = key * a.keys + value * a.values + 8 * a.hashes + a.word_size * a.words + a.table
+-- the bytes of all of them, if a key has `key` of them, a value `value`, and a hash eight
+abbrev pub bytes_in : ℕ → ℕ → Arrays → ℕ
+bytes_in key value a = key * a.keys + value * a.values + 8 * a.hashes + a.word_size * a.words + a.table
 
 -- the bytes of the arrays of a store or map of this form and this capacity
 abbrev pub bytes : ℕ → ℕ → Bool → ℕ → ℕ
-bytes key value is_vec capacity = bytes_of key value (arrays_of is_vec capacity)
+bytes key value is_vec capacity = bytes_in key value (arrays_of is_vec capacity)

@@ -2,9 +2,9 @@
 use Rattle.std.specs.Prelude.{◌≡◌, ℕ, zero, suc, ◌+◌, ◌-◌, ◌*◌, ◌/◌, ◌^◌, ◌<◌, ◌≤◌, ◌⊎◌, Bool, true, false, ◌||◌, ◌==◌, min, max, nat_lt, nat_le, Option, None, Some, if◌then◌else◌}
 use Rattle.std.specs.Option.{option_map_or}
 
--- the capacity that a vector grows to where more is needed: twice what it was, at least eight and what is needed, at most the limit
-abbrev pub generous_capacity : ℕ → ℕ → ℕ → ℕ
-generous_capacity limit capacity needed = min (max (max (2 * capacity) 8) needed) limit
+-- the capacity that a vector grows to if more is needed: twice what it was, at least eight and what is needed, at most the limit
+abbrev pub grown_capacity : ℕ → ℕ → ℕ → ℕ
+grown_capacity limit capacity needed = min (max (max (2 * capacity) 8) needed) limit
 
 -- the load factor is three quarters: the capacity is 0, 3, 6, 12, 24, .. for 0, 4, 8, 16, 32, .. buckets
 abbrev pub capacity_of : ℕ → ℕ
@@ -19,17 +19,17 @@ abbrev pub IsBucketCount : ℕ → Type 0
 IsBucketCount buckets = (buckets ≡ 0) ⊎ ((k : ℕ) × (2 ≤ k) × (buckets ≡ 2 ^ k))
 
 -- the bucket count that comes after this one; a table that has buckets has at least 4
-abbrev pub more_buckets : ℕ → ℕ
-more_buckets buckets = if buckets == 0 then 4 else 2 * buckets
+abbrev pub next_bucket_count : ℕ → ℕ
+next_bucket_count buckets = if buckets == 0 then 4 else 2 * buckets
 
--- as many buckets where their capacity is more than `pairs`, else the next count
-abbrev pub buckets_for_more : ℕ → ℕ → ℕ
-buckets_for_more pairs buckets = if nat_lt pairs (capacity_of buckets) then buckets else more_buckets buckets
+-- as many buckets if their capacity is more than `pairs`, otherwise the next count
+abbrev pub bucket_count_for_one_more : ℕ → ℕ → ℕ
+bucket_count_for_one_more pairs buckets = if nat_lt pairs (capacity_of buckets) then buckets else next_bucket_count buckets
 
 -- the least bucket count whose capacity is enough for this many pairs
 unfoldable pub least_buckets : ℕ → ℕ
 least_buckets zero = 0
-least_buckets (suc pairs) = buckets_for_more pairs (least_buckets pairs)
+least_buckets (suc pairs) = bucket_count_for_one_more pairs (least_buckets pairs)
 
 -- the least of the capacities 0, 3, 6, 12, 24, .. that is enough for this many pairs
 abbrev pub least_table_capacity : ℕ → ℕ
@@ -47,7 +47,7 @@ IsFormCapacity limit is_vec capacity = (is_vec ≡ true → capacity ≤ limit) 
 abbrev pub least_capacity : Bool → ℕ → ℕ
 least_capacity is_vec pairs = if is_vec then pairs else least_table_capacity pairs
 
--- whether the form is the vector where a map is made for this many pairs: the limit allows them
+-- whether the form is the vector if a map is made for this many pairs: the limit allows them
 abbrev pub is_vec_for : ℕ → ℕ → Bool
 is_vec_for limit pairs = nat_le pairs limit
 
@@ -60,18 +60,18 @@ abbrev pub shrunk_capacity : ℕ → Bool → ℕ → ℕ
 shrunk_capacity limit is_vec pairs = least_capacity (is_vec_shrunk limit is_vec pairs) pairs
 
 -- of this many pairs as many as a form may hold: in a vector no more than the limit, in a table all
-abbrev pub capped : ℕ → Bool → ℕ → ℕ
-capped limit is_vec pairs = if is_vec then min pairs limit else pairs
+abbrev pub pairs_within_limit : ℕ → Bool → ℕ → ℕ
+pairs_within_limit limit is_vec pairs = if is_vec then min pairs limit else pairs
 
--- the capacity that is wanted, if it is more than there is; else none
+-- the capacity that is wanted, if it is more than there is; otherwise none
 abbrev pub capacity_needed : ℕ → ℕ → Option ℕ
 capacity_needed capacity wanted = if nat_lt capacity wanted then Some wanted else None
 
--- the capacity after a granted call that needed this much: the same if it needed no more; else what a vector grows to, or a table's least
+-- the capacity after a granted call that needed this much: the same if it needed no more; otherwise what a vector grows to, or a table's least
 -- that is enough
 abbrev pub capacity_after : ℕ → Bool → ℕ → Option ℕ → ℕ
-capacity_after limit is_vec capacity needs =
-    option_map_or (λ n. if is_vec then generous_capacity limit capacity n else least_table_capacity n) needs capacity
+capacity_after limit is_vec capacity needed =
+    option_map_or (λ n. if is_vec then grown_capacity limit capacity n else least_table_capacity n) needed capacity
 
 -- the capacity of a bucket count is enough for this many pairs, and each other count that is enough for them is no smaller
 pub record IsLeastFor (pairs buckets : ℕ) : Type 0 where

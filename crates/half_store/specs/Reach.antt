@@ -1,6 +1,6 @@
 -- The home bucket of a hash, and how many buckets an unsuccessful probe from there reads.
 --
--- All of it is said over the held hashes and the number of buckets alone: nothing here knows what a bucket contains.
+-- All of it depends only on the held hashes and the number of buckets: nothing here knows what a bucket contains.
 use Rattle.std.specs.Prelude.{◌≢◌, ℕ, zero, suc, ◌+◌, ◌-◌, ◌%◌, ◌<◌, ◌≤◌, Bool, false, ◌==◌, ◌||◌, nat_lt, nat_le, if◌then◌else◌, List, [], ◌∷◌, count_by, AllPairs}
 
 -- the home bucket of a hash: where each probe for it begins

@@ -5,17 +5,17 @@ use Rattle.std.specs.declared.io.ErrorKind.TheVariants.{OutOfMemory, InvalidInpu
 pub use Rattle.half_store.specs.declared.refusal.Refusal.{Refusal}
 pub use Rattle.half_store.specs.declared.refusal.Refusal.TheVariants.{Memory, Size}
 
--- why a call that needs capacity for this many pairs is refused, where it is: more than 2^60 are too many for any memory
+-- why a call that needs capacity for this many pairs is refused, if it is: more than 2^60 are too many for any memory
 abbrev pub refusal_of : ℕ → Refusal
 refusal_of needed = if nat_lt (2 ^ 60) needed then Size else Memory
 
 -- a call that needs this much capacity was refused for this reason; one that needs none is never refused
 abbrev pub IsRefusal : Option ℕ → Refusal → Type 0
-IsRefusal needs why = IfNone needs ⊥ × IfSome needs (λ n. why ≡ refusal_of n)
+IsRefusal needed why = IfNone needed ⊥ × IfSome needed (λ n. why ≡ refusal_of n)
 
 -- what a granted call needed: capacity for no more than 2^60 pairs
 abbrev pub IsGrantable : Option ℕ → Type 0
-IsGrantable needs = IfSome needs (λ n. n ≤ 2 ^ 60)
+IsGrantable needed = IfSome needed (λ n. n ≤ 2 ^ 60)
 
 -- what a reason is written as
 abbrev pub text_of : Refusal → List ℕ

@@ -1,5 +1,5 @@
 -- What stands in a bucket: a word, which is 0 or the entry index of its pair and one more, and the hash stored for it.
-use Rattle.std.specs.Prelude.{◌≡◌, ◌≢◌, ℕ, ◌+◌, ◌-◌, ◌<◌, ◌==◌, Bool, false, List, length, count_by, Option, Some, None, slice_index, slice_index_or, zero, suc, ◌≤◌, map}
+use Rattle.std.specs.Prelude.{◌≡◌, ◌≢◌, ℕ, ◌<◌, ◌==◌, Bool, false, List, length, count_by, Option, Some, None, slice_index_or, zero, suc, ◌≤◌, map}
 use Rattle.half_store.specs.Reach.{home, probe_distance}
 use Rattle.std.specs.List.{All, slice_get, position_or_len}
 
@@ -25,7 +25,7 @@ pub record EachOnce (number : ℕ) (words : List ℕ) : Type 0 where
 abbrev pub bucket_of : List ℕ → ℕ → ℕ
 bucket_of words index = position_or_len (λ word. word == suc index) words
 
--- the hash stored in a bucket, or none where it is empty
+-- the hash stored in a bucket, or none if it is empty
 abbrev pub slot_at : List (Option ℕ) → ℕ → Option ℕ
 slot_at slots bucket = slice_index_or slots bucket None
 
@@ -38,10 +38,6 @@ stored test (Some hash) = test hash
 abbrev pub distance_from_home : List (Option ℕ) → ℕ → ℕ → ℕ
 distance_from_home slots hash bucket = probe_distance (length slots) (home (length slots) hash) bucket
 
--- in how many buckets this hash is stored
-abbrev pub slot_hash_count : List (Option ℕ) → ℕ → ℕ
-slot_hash_count slots hash = count_by (stored (λ held. held == hash)) slots
-
 -- each bucket that a probe from `start` reads before this one is full
 abbrev pub FullBefore : List (Option ℕ) → ℕ → ℕ → Type 0
 FullBefore slots start bucket =
@@ -52,17 +48,6 @@ pub record IsSlotVacancy (slots : List (Option ℕ)) (hash bucket : ℕ) : Type 
   pub within : bucket < length slots
   pub vacant : slot_at slots bucket ≡ None
   pub passed : FullBefore slots (home (length slots) hash) bucket
-
--- the hash is stored in this bucket, and a probe for it reads it
-pub record IsFoundAt (slots : List (Option ℕ)) (hash bucket : ℕ) : Type 0 where
-  pub found : slot_at slots bucket ≡ Some hash
-  pub passed : FullBefore slots (home (length slots) hash) bucket
-
--- a probe for the hash ended at the pair of this entry index, in this bucket, and read each bucket up to it
-pub record EndsAtPair (hashes words : List ℕ) (hash index bucket before after : ℕ) : Type 0 where
-  pub found : IsFoundAt (slots_from hashes words) hash bucket
-  pub entry : index ≡ slice_index words bucket - 1
-  pub looked : after ≡ before + (distance_from_home (slots_from hashes words) hash bucket + 1)
 
 -- some bucket is empty
 abbrev pub HasVacantSlot : List (Option ℕ) → Type 0

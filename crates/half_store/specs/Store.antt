@@ -6,7 +6,7 @@ use Rattle.std.specs.declared.alloc.AllocError.{AllocError}
 use Rattle.std.specs.Global.{Box}
 pub use Rattle.half_store.specs.declared.store.find.Found.{Found}
 pub use Rattle.half_store.specs.declared.store.find.Vacancy.{Vacancy}
-use Rattle.half_store.specs.Capacity.{capacity_of, least_table_capacity, least_capacity, capped, capacity_needed, capacity_after, IsFormCapacity, is_vec_for, is_vec_shrunk, shrunk_capacity}
+use Rattle.half_store.specs.Capacity.{capacity_of, least_table_capacity, least_capacity, pairs_within_limit, capacity_needed, capacity_after, IsFormCapacity, is_vec_for, is_vec_shrunk, shrunk_capacity}
 use Rattle.half_store.specs.Refusal.{Refusal, refusal_of, IsRefusal, IsGrantable}
 use Rattle.half_store.specs.Columns.{ColumnsState}
 use Rattle.half_store.specs.Table.{TableState, state_of_words, table_code, with_hash_in, IsTableVacancy, IsTablePlace}
@@ -59,7 +59,7 @@ module _ {K V : Type 0} where
   store_with_pairs s ps = record s { pairs = ps }
 
 module _ {K V : Type 0} (limit needed : ℕ) where
-  -- a store with no pairs and the least capacity of its form for this many: a vector where the limit allows them, else a table
+  -- a store with no pairs and the least capacity of its form for this many: a vector if the limit allows them, otherwise a table
   pub record IsMadeFor (s : StoreState K V) : Type 0 where
     pub form : s.is_vec ≡ is_vec_for limit needed
     pub pairs : s.pairs ≡ []
@@ -89,11 +89,11 @@ pub record MakesTable {K V : Type 0} (old new : StoreState K V) (needed : ℕ) (
 module _ {K V : Type 0} (limit : ℕ) (s : StoreState K V) (additional : ℕ) where
   -- for how many pairs in all a reservation for this many more is
   abbrev pub reserve_wanted : ℕ
-  reserve_wanted = capped limit s.is_vec (length s.pairs + additional)
+  reserve_wanted = pairs_within_limit limit s.is_vec (length s.pairs + additional)
 
   -- the capacity that it needs, or none if there is enough
-  abbrev pub reserve_needs : Option ℕ
-  reserve_needs = capacity_needed s.capacity reserve_wanted
+  abbrev pub capacity_for_reserve : Option ℕ
+  capacity_for_reserve = capacity_needed s.capacity reserve_wanted
 
 module _ {K V : Type 0} (limit : ℕ) (old new : StoreState K V) where
   -- a reservation for this many pairs more: if it is granted the capacity is enough for them, and if it is refused nothing changes
@@ -101,12 +101,12 @@ module _ {K V : Type 0} (limit : ℕ) (old new : StoreState K V) where
     pub pairs : new.pairs ≡ old.pairs
     pub form : new.is_vec ≡ old.is_vec
     pub hashes : new.table.hashes ≡ old.table.hashes
-    pub capacity : OnOk result (new.capacity ≡ capacity_after limit old.is_vec old.capacity (reserve_needs limit old additional))
+    pub capacity : OnOk result (new.capacity ≡ capacity_after limit old.is_vec old.capacity (capacity_for_reserve limit old additional))
     pub enough : OnOk result (reserve_wanted limit old additional ≤ new.capacity)
     pub unneeded : OnOk result (reserve_wanted limit old additional ≤ old.capacity → new ≡ old)
     pub allowed : IsFormCapacity limit old.is_vec old.capacity → IsFormCapacity limit new.is_vec new.capacity
-    pub grantable : OnOk result (IsGrantable (reserve_needs limit old additional))
-    pub refused : IfErr result (IsRefusal (reserve_needs limit old additional))
+    pub grantable : OnOk result (IsGrantable (capacity_for_reserve limit old additional))
+    pub refused : IfErr result (IsRefusal (capacity_for_reserve limit old additional))
     pub err : OnErr result (new ≡ old)
 
   -- capacity, and a table that is not needed, are given back; only a smaller capacity for some pairs may be refused: then nothing changes

@@ -1,24 +1,24 @@
 -- What a removal does to a store, in order or by the last pair, and to the buckets before pairs are shifted back.
 use Rattle.std.specs.Prelude.{◌≡◌, ℕ, ◌+◌, ◌-◌, ◌<◌, false, List, length, slice_get, slice_index, slice_set, Some, suc, ◌==◌, nat_lt, if◌then◌else◌}
 use Rattle.half_store.specs.PairLists.{swap_remove_at}
-use Rattle.half_store.specs.Work.{ReadsWithin, probe_reads, Work}
+use Rattle.half_store.specs.Work.{ReadsWithin, reads_up_to, Work}
 use Rattle.half_store.specs.Slots.{slots_from}
 use Rattle.half_store.specs.Reach.{reach, probe_distance}
 use Rattle.half_store.specs.Store.{StoreState, SameFormAndCapacity}
-use Rattle.half_store.specs.Table.{IsEmptyBeside}
+use Rattle.half_store.specs.Table.{IsOtherEmpty}
 use Rattle.std.specs.List.{remove}
 
 -- the bucket of the last pair, which a probe for its hash finds, has this entry index now
-pub record Renames (hashes old : List ℕ) (index : ℕ) (new : List ℕ) (before after : Work) : Type 0 where
+pub record RenamesLast (hashes old : List ℕ) (index : ℕ) (new : List ℕ) (before after : Work) : Type 0 where
   pub bucket : ℕ
   pub at : slice_index old bucket ≡ length hashes
-  pub near : probe_reads (length old) (slice_index hashes (length hashes - 1)) bucket < reach hashes (length old) (slice_index hashes (length hashes - 1))
+  pub near : reads_up_to (length old) (slice_index hashes (length hashes - 1)) bucket < reach hashes (length old) (slice_index hashes (length hashes - 1))
   pub words : new ≡ slice_set old bucket (index + 1)
-  pub reads : ReadsWithin (probe_reads (length old) (slice_index hashes (length hashes - 1)) bucket) before after
+  pub reads : ReadsWithin (reads_up_to (length old) (slice_index hashes (length hashes - 1)) bucket) before after
 
 -- closing the gap at this bucket reads those after it, up to any empty one
 abbrev pub ShiftsUpTo : List ℕ → List ℕ → ℕ → Work → Work → Type 0
-ShiftsUpTo hashes old removed before after = (vacant : ℕ) → IsEmptyBeside (slots_from hashes (slice_set old removed 0)) removed vacant →
+ShiftsUpTo hashes old removed before after = (vacant : ℕ) → IsOtherEmpty (slots_from hashes (slice_set old removed 0)) removed vacant →
     ReadsWithin (probe_distance (length old) removed vacant) before after
 
 module _ {K V : Type 0} (old new : StoreState K V) where
@@ -30,13 +30,13 @@ module _ {K V : Type 0} (old new : StoreState K V) where
     pub form : SameFormAndCapacity old new
 
 -- the word of a bucket once the pair at this index is the last of `pairs`, and each pair behind it has the index before its own
-abbrev pub word_once_moved : ℕ → ℕ → ℕ → ℕ
-word_once_moved pairs index word = if word == suc index then pairs else (if nat_lt index word then word - 1 else word)
+abbrev pub word_after_move : ℕ → ℕ → ℕ → ℕ
+word_after_move pairs index word = if word == suc index then pairs else (if nat_lt index word then word - 1 else word)
 
--- the pair at this index is the last now, as far as the buckets go: each of them has that word
+-- the buckets after the pair at this index became the last one: each of them has that word
 pub record MovesToEnd (pairs index : ℕ) (old new : List ℕ) : Type 0 where
   pub len : length new ≡ length old
-  pub words : (bucket : ℕ) → slice_index new bucket ≡ word_once_moved pairs index (slice_index old bucket)
+  pub words : (bucket : ℕ) → slice_index new bucket ≡ word_after_move pairs index (slice_index old bucket)
 
 -- the pair at this index is gone, and each pair behind it has the index before its own
 pub record StoreShiftRemoves {K V : Type 0} (old new : StoreState K V) (index : ℕ) (pair : K × V) : Type 0 where

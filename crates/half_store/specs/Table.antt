@@ -10,7 +10,7 @@ use Rattle.std.specs.declared.vec.Vec.{Vec}
 use Rattle.std.specs.List.{swap_remove}
 use Rattle.std.specs.Option.{option_map}
 use Rattle.std.specs.Result.{result_ok}
-use Rattle.half_store.specs.Work.{work_after_missing, IsTableHitCost, Work, probe_reads, sum_below}
+use Rattle.half_store.specs.Work.{work_after_miss, IsTableHitCost, Work, reads_up_to, sum_below}
 use Rattle.half_store.specs.Reach.{reach, filling_reach}
 
 -- what callers see: the stored hashes by entry index, and how many buckets there are; the words of the buckets are private
@@ -36,7 +36,7 @@ with_hash_in t hash bucket = state_of_words (t.hashes ++ hash ∷ []) (slice_set
 
 -- how many buckets a search reads that finds the pair of this entry index: from the home of its hash up to and with its bucket
 unfoldable pub hit_reads_in : TableState → ℕ → ℕ
-hit_reads_in t index = probe_reads t.buckets (slice_index t.hashes index) (bucket_of t.words index)
+hit_reads_in t index = reads_up_to t.buckets (slice_index t.hashes index) (bucket_of t.words index)
 
 -- how many the searches for the pairs of the first entry indices read, one each
 unfoldable pub all_hit_reads_in : TableState → ℕ → ℕ
@@ -55,14 +55,14 @@ pub record IsIndexed (hashes words : List ℕ) : Type 0 where
   pub ordered : ProbeInvariant (slots_from hashes words)
 
 -- a bucket other than the gap is empty
-abbrev pub IsEmptyBeside : List (Option ℕ) → ℕ → ℕ → Type 0
-IsEmptyBeside slots gap vacant = (vacant < length slots) × (slot_at slots vacant ≡ None) × (vacant ≢ gap)
+abbrev pub IsOtherEmpty : List (Option ℕ) → ℕ → ℕ → Type 0
+IsOtherEmpty slots gap vacant = (vacant < length slots) × (slot_at slots vacant ≡ None) × (vacant ≢ gap)
 
--- an emptied bucket, which alone may break the probe invariant; another bucket is empty too
+-- an emptied bucket: only it may break the probe invariant; another bucket is empty too
 pub record HasGap (slots : List (Option ℕ)) (gap : ℕ) : Type 0 where
   pub within : gap < length slots
   pub vacant : slot_at slots gap ≡ None
-  pub another : (bucket : ℕ) × IsEmptyBeside slots gap bucket
+  pub another : (bucket : ℕ) × IsOtherEmpty slots gap bucket
   pub others : (bucket vacant hash : ℕ) → slot_at slots bucket ≡ Some hash → vacant < length slots → slot_at slots vacant ≡ None → vacant ≢ gap →
       distance_from_home slots hash bucket < distance_from_home slots hash vacant
 
@@ -72,7 +72,7 @@ pub record IsIndexedWithGap (hashes words : List ℕ) (emptied : ℕ) : Type 0 w
   pub each : EachOnce (length hashes) words
   pub gap : HasGap (slots_from hashes words) emptied
 
--- what is always true of a table's columns: the buckets have words up to `most`, of four bytes exactly where the capacity of the table is
+-- what is always true of a table's columns: the buckets have words up to `most`, of four bytes exactly if the capacity of the table is
 -- below 2^32, and the column of the hashes has memory for exactly that capacity
 pub record IsTable (hashes words : List ℕ) (most capacity : ℕ) : Type 0 where
   pub indexed : IsIndexed hashes words
@@ -90,13 +90,13 @@ pub record IsTableMemory {Z : Type 0} (hashes : Vec ℕ Z) (words : WordMemory) 
 -- what a search of a table cost that found the pair of this entry index, or none. The searches for all pairs, one each, read what insertions
 -- of their hashes read (`hits`)
 pub record IsTableSearchCost (t : TableState) (hash : ℕ) (index : Option ℕ) (old new : Work) : Type 0 where
-  pub missing : IfNone index (new ≡ work_after_missing t.hashes t.buckets hash old)
+  pub missing : IfNone index (new ≡ work_after_miss t.hashes t.buckets hash old)
   pub found : IfSome index (λ _. IsTableHitCost t.hashes t.buckets hash old new)
   pub hit : IfSome index (λ at. new.looked ≡ old.looked + hit_reads_in t at)
   pub hits : all_hit_reads_in t (length t.hashes) ≡ filling_reach t.buckets t.hashes
   pub short : reach t.hashes t.buckets hash ≤ length t.hashes + 1
 
--- the entry index of a pair of this hash that the test accepts, and its bucket; or, where it rejects each, the empty bucket where the probe
+-- the entry index of a pair of this hash that the test accepts, and its bucket; or, if it rejects each, the empty bucket where the probe
 -- ended, if there are buckets
 pub record TableSearch (returns : ℕ → Bool → Type 0) (t : TableState) (hash : ℕ) (result : Result (ℕ × ℕ) ℕ) (old new : Work) : Type 0 where
   pub found : IfOk result (λ pair. slice_get t.hashes pair.0 ≡ Some hash)

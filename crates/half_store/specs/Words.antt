@@ -11,7 +11,7 @@ abbrev pub words_of : WordArray → List ℕ
 words_of (FourBytes v) = v
 words_of (EightBytes v) = v
 
--- the greatest word that fits; of eight bytes, that of the most pairs that a table has memory for
+-- the greatest word: 2^32 - 1 in four bytes, 2^62 in eight
 abbrev pub most_of : WordArray → ℕ
 most_of (FourBytes v) = 2 ^ 32 - 1
 most_of (EightBytes v) = 2 ^ 62

@@ -40,8 +40,8 @@ abbrev pub hash_count : List ℕ → ℕ → ℕ
 hash_count hashes hash = count_by (λ held. held == hash) hashes
 
 -- after a probe that found none: each held pair of that hash was compared, and exactly `reach` buckets were read
-abbrev pub work_after_missing : List ℕ → ℕ → ℕ → Work → Work
-work_after_missing hashes buckets hash w =
+abbrev pub work_after_miss : List ℕ → ℕ → ℕ → Work → Work
+work_after_miss hashes buckets hash w =
     record w { compared = w.compared + hash_count hashes hash; looked = w.looked + reach hashes buckets hash }
 
 -- what a probe that found a pair added
@@ -59,13 +59,13 @@ sum_below zero f = 0
 sum_below (suc count) f = f count + sum_below count f
 
 -- how many buckets a probe for this hash reads up to and with this bucket
-abbrev pub probe_reads : ℕ → ℕ → ℕ → ℕ
-probe_reads buckets hash bucket = probe_distance buckets (home buckets hash) bucket + 1
+abbrev pub reads_up_to : ℕ → ℕ → ℕ → ℕ
+reads_up_to buckets hash bucket = probe_distance buckets (home buckets hash) bucket + 1
 
 -- the most buckets that a removal of the pair at this entry index reads: one fewer than unsuccessful probes for its hash and for the last one
 abbrev pub removal_reads : List ℕ → ℕ → ℕ → ℕ
 removal_reads hashes buckets index = reach hashes buckets (slice_index hashes index) + reach hashes buckets (slice_index hashes (length hashes - 1)) - 1
 
--- the most that it reads where the bucket of the pair is known, and no probe for it is made
+-- the most that it reads if the bucket of the pair is known, and no probe for it is made
 abbrev pub removal_reads_left : List ℕ → ℕ → ℕ → ℕ → ℕ
-removal_reads_left hashes buckets index bucket = removal_reads hashes buckets index - probe_reads buckets (slice_index hashes index) bucket
+removal_reads_left hashes buckets index bucket = removal_reads hashes buckets index - reads_up_to buckets (slice_index hashes index) bucket

@@ -24,29 +24,6 @@ pub(crate) fn grow<T>(column: &mut Vec<T>, capacity: usize) -> Result<(), AllocE
     column.reserve_exact(capacity - column.len())
 }
 
-/// Gives the keys a greater capacity, and returns an empty column of that capacity for the values. On error nothing changes.
-pub(crate) fn grow_with_column<K, V>(
-    keys: &mut Vec<K>,
-    capacity: usize,
-) -> Result<Vec<V>, AllocError>
-    requires { vec_capacity keys.old < capacity }
-    ensures items { keys.new.items ≡ keys.old.items }
-    ensures len { vec_len keys.new ≡ vec_len keys.old }
-    ensures ok { OnOk result (vec_capacity keys.new ≡ capacity) }
-    ensures err { OnErr result (vec_capacity keys.new ≡ vec_capacity keys.old) }
-    ensures empty { IfOk result (λ v. v.items ≡ []) }
-    ensures none { IfOk result (λ v. vec_len v ≡ 0) }
-    ensures beside { IfOk result (λ v. vec_capacity v ≡ capacity) }
-{
-    let values = Vec::with_capacity(*keys.allocator(), capacity)?;
-    // Grown last: only the last block may be extended in place.
-    if let Err(refused) = grow(keys, capacity) {
-        values.destroy_empty();
-        return Err(refused);
-    }
-    Ok(values)
-}
-
 /// Moves all elements, in order, into an empty column whose capacity is enough, and frees the old one.
 pub(crate) fn move_to<T>(column: &mut Vec<T>, mut fresh: Vec<T>)
     requires empty { fresh.items ≡ [] }

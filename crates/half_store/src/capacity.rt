@@ -3,7 +3,7 @@
 //! A table has no buckets, or a power of two from 4 on. The load factor is three quarters: the capacity is three quarters
 //! of the buckets, so at least one bucket stays empty and each probe ends.
 ghost use Rattle.std.specs.Prelude.{◌≡◌, ◌^◌, ◌≤◌};
-ghost use Rattle.half_store.specs.Capacity.{capacity_of, least_buckets, generous_capacity, IsLeastFor};
+ghost use Rattle.half_store.specs.Capacity.{capacity_of, least_buckets, IsLeastFor};
 
 /// The most pairs that a map may hold.
 pub const MOST_PAIRS: usize = 1 << 60;
@@ -13,9 +13,6 @@ const BUCKETS_PER_EMPTY: usize = 4;
 
 /// The fewest buckets of a table that has any.
 const LEAST_BUCKETS: usize = 4;
-
-/// The least capacity to which a vector grows, unless the limit is less.
-const LEAST_GROWN: usize = 8;
 
 /// The capacity of this many buckets: 0, 3, 6, 12, 24 for 0, 4, 8, 16, 32.
 #[inline(always)]
@@ -39,16 +36,4 @@ pub fn least_buckets(needed: usize) -> usize
         buckets *= 2;
     }
     buckets
-}
-
-/// The capacity to which a vector grows that needs this much: twice what it was, but at least eight and what is needed, so that
-/// many insertions cost few growths, and never past the limit.
-pub(crate) fn generous_capacity(limit: usize, capacity: usize, needed: usize) -> usize
-    ensures { result ≡ generous_capacity limit capacity needed }
-{
-    capacity
-        .saturating_mul(2)
-        .max(LEAST_GROWN)
-        .max(needed)
-        .min(limit)
 }

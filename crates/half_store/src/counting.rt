@@ -15,7 +15,7 @@ pub fn hash_one<K: Hash, S: BuildHasher>(builder: &S, key: &K, tally: &mut Tally
         ≡ hash_by S.BuildHasher S.Hasher.Hasher builder.now (K.hash_input key.now) }
     ensures counted { tally.new ≡ asked_more 1 tally.old }
 {
-    tally.add_asked();
+    tally.asked = tally.asked.plus_one();
     builder.hash_one(key)
 }
 
@@ -26,6 +26,6 @@ pub fn compare<K, F: Fn(&K) -> bool>(matches: &F, key: &K, tally: &mut Tally) ->
     ensures answer { FnReturnsAt F.Fn matches.now key.now result }
     ensures counted { tally.new ≡ compared_more 1 tally.old }
 {
-    tally.add_compared();
+    tally.compared = tally.compared.plus_one();
     matches(key)
 }

@@ -1,4 +1,4 @@
-//! The storage of a map in two forms: pairs in two columns, an index over them where there is one, and a tally of the work.
+//! The storage of a map in two forms: pairs in two columns, an index over them if there is one, and a tally of the work.
 //!
 //! Its API is the names below the modules, the macro `uncounted`, and `counting`, by which a map hashes a key. No map calls
 //! what else the modules have: they are public since contracts name a type by its module, and for those who prove or test what
@@ -6,7 +6,6 @@
 #![tactic(auto)]
 
 mod blocks;
-pub mod buckets;
 pub mod capacity;
 pub mod counting;
 pub mod refusal;

@@ -12,7 +12,7 @@ use std::{fmt, io};
 
 /// Why a call failed. On error nothing changes, but for `extend` of a map, which keeps what it inserted before.
 ///
-/// `?` converts std's `AllocError` and `AllocFailed` into a `Refusal`, so that calls of std and of the map stand in one function.
+/// `?` converts std's `AllocError` and `AllocFailed` into a `Refusal`, so one function may call both.
 /// It also converts a `Refusal` into an `AllocError`, where the reason is lost, and into an `io::Error`, the error of a `main`.
 #[derive(Clone, Copy, Debug, PartialEq, Eq)]
 pub enum Refusal {

@@ -84,6 +84,7 @@ impl<K, V> Store<K, V> {
         if let Some(table) = &mut self.table {
             table.clear();
         }
-        self.columns.clear();
+        self.columns.keys.clear();
+        self.columns.values.clear();
     }
 }

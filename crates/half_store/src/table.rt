@@ -7,10 +7,10 @@
 
 ghost use Rattle.std.specs.Prelude.{◌≡◌, ◌^◌, ◌<◌, ◌≤◌, [], ◌∷◌, ◌++◌, length, slice_index};
 ghost use Rattle.std.specs.Fn.{FnReturnsAt};
-ghost use Rattle.half_store.specs.Search.{CallableOnHash, ReturnsAt};
+ghost use Rattle.half_store.specs.Search.{CallableOnKeysOfHash, ReturnsAt};
 ghost use Rattle.half_store.specs.Reach.{reach};
 ghost use Rattle.half_store.specs.Capacity.{capacity_of, IsBucketCount, least_table_capacity, buckets_of};
-ghost use Rattle.half_store.specs.Work.{looked_more, probe_reads, ReadsWithin, removal_reads_left};
+ghost use Rattle.half_store.specs.Work.{looked_more, reads_up_to, ReadsWithin, removal_reads_left};
 ghost use Rattle.half_store.specs.Table.{with_hash_in, IsTablePlace, IsTableVacancy, TableSearch, RemovesFromTable};
 
 mod deletion;
@@ -19,21 +19,21 @@ pub mod probe;
 mod shift;
 
 use crate::Tally;
-use crate::buckets::HashedBuckets;
 use crate::capacity::capacity_of;
-use crate::words::{WordArray, Words, of_either_size};
+use crate::words::{WordArray, Words, WordsMut, of_either_size};
 use deletion::{bucket_of, remove_at};
-use probe::{find_in, first_empty};
+use probe::{first_empty, probe_for};
 use std::marker::Model;
 
 /// Buckets that lead from a hash to the entry indices of the pairs that have it.
 ///
 /// Entry indices count up in the order of insertion. `remove_at` gives the last pair the index that became free,
-/// `shift_remove_at` gives each pair behind the removed one the index before its own. There are no buckets, or a power of two from 4 on, and the load factor is three quarters. A bucket takes four bytes where that is
-/// enough for as many pairs as fit, and else eight.
+/// `shift_remove_at` gives each pair behind the removed one the index before its own. There are no buckets, or a power
+/// of two from 4 on, and the load factor is three quarters. A bucket takes four bytes if that is enough for as many pairs as
+/// fit, and otherwise eight.
 #[derive(Drop)]
 pub struct Table {
-    // 0 for an empty bucket, else the entry index and one more
+    // 0 for an empty bucket, otherwise the entry index and one more
     pub(crate) buckets: WordArray,
     // by entry index
     pub(crate) hashes: Vec<u64>,
@@ -79,10 +79,10 @@ impl Table {
         capacity_of(self.buckets.count())
     }
 
-    /// Searches for a pair of this hash whose key `matches` accepts. `matches` is called with keys of that hash alone.
+    /// Searches for a pair of this hash whose key `matches` accepts. `matches` is called only with keys of that hash.
     ///
-    /// Returns its entry index and its bucket, or the empty bucket at which the probe ended, which is 0 where there are none.
-    /// Where none is found it has read exactly `reach` buckets and called `matches` once for each pair of that hash.
+    /// Returns its entry index and its bucket, or the empty bucket at which the probe ended, which is 0 if there are none.
+    /// If none is found it has read exactly `reach` buckets and called `matches` once for each pair of that hash.
     #[inline(always)]
     pub fn find<K, F: Fn(&K) -> bool>(
         &self,
@@ -92,14 +92,14 @@ impl Table {
         tally: &mut Tally,
     ) -> Result<(usize, usize), usize>
         requires keys { length self.now.hashes ≤ length keys.now }
-        requires callable { CallableOnHash (F.pre matches.now) self.now.hashes hash keys.now }
+        requires callable { CallableOnKeysOfHash (F.pre matches.now) self.now.hashes hash keys.now }
         ensures { TableSearch (ReturnsAt (FnReturnsAt F.Fn matches.now) keys.now) self.now
             hash result tally.old tally.new }
     {
         let hashes = self.hashes.as_slice();
         of_either_size!(
             &self.buckets,
-            buckets => find_in(&HashedBuckets { buckets, hashes }, keys, hash, matches, tally)
+            buckets => probe_for(buckets, hashes, keys, hash, matches, tally)
         )
     }
 
@@ -115,7 +115,7 @@ impl Table {
         let hashes = self.hashes.as_slice();
         of_either_size!(
             &self.buckets,
-            buckets => first_empty(&HashedBuckets { buckets, hashes }, hash, tally)
+            buckets => first_empty(buckets, hashes, hash, tally)
         )
     }
 
@@ -154,9 +154,9 @@ impl Table {
     pub fn bucket_of(&self, index: usize, tally: &mut Tally) -> usize
         requires { index < length self.now.hashes }
         ensures at { IsTablePlace self.now index result }
-        ensures cost { tally.new ≡ looked_more (probe_reads self.now.buckets
+        ensures cost { tally.new ≡ looked_more (reads_up_to self.now.buckets
             (slice_index self.now.hashes index) result) tally.old }
-        ensures near { probe_reads self.now.buckets (slice_index self.now.hashes index) result
+        ensures near { reads_up_to self.now.buckets (slice_index self.now.hashes index) result
             < reach self.now.hashes self.now.buckets (slice_index self.now.hashes index) }
     {
         of_either_size!(
@@ -191,15 +191,12 @@ impl Table {
         self.hashes.clear();
     }
 
-    /// The buckets, as a probe reads them.
+    /// The buckets and the stored hashes, as a probe reads them.
     #[inline(always)]
-    pub fn hashed_buckets(&self) -> HashedBuckets<'_, WordArray>
-        ensures indexed { IsIndexed result.hashes.now (words_of result.buckets.now) }
-        ensures shown { state_of_words result.hashes.now (words_of result.buckets.now) ≡ self.now }
+    pub fn buckets(&self) -> (&WordArray, &[u64])
+        ensures indexed { IsIndexed result.1.now (words_of result.0.now) }
+        ensures shown { state_of_words result.1.now (words_of result.0.now) ≡ self.now }
     {
-        HashedBuckets {
-            buckets: &self.buckets,
-            hashes: self.hashes.as_slice(),
-        }
+        (&self.buckets, self.hashes.as_slice())
     }
 }

@@ -1,7 +1,7 @@
 //! The account of the work that look-ups and insertions do.
 ghost use Rattle.std.specs.Prelude.{◌≡◌, ℕ, ◌+◌};
 ghost use Rattle.std.specs.Borrow.{ftrue};
-ghost use Rattle.half_store.specs.Work.{Work, no_work, asked_more, compared_more, looked_more};
+ghost use Rattle.half_store.specs.Work.{no_work};
 
 use std::marker::Model;
 
@@ -11,9 +11,9 @@ use std::marker::Model;
 /// counting costs nothing.
 #[derive(Drop)]
 pub struct Tally {
-    asked: Count,
-    compared: Count,
-    looked: Count,
+    pub(crate) asked: Count,
+    pub(crate) compared: Count,
+    pub(crate) looked: Count,
 }
 
 impl Model for Tally {
@@ -50,33 +50,6 @@ impl Tally {
             compared: Count::new(),
             looked: Count::new(),
         }
-    }
-
-    // One hash more.
-    #[inline(always)]
-    pub(crate) fn add_asked(&mut self)
-        ensures { self.new ≡ asked_more 1 self.old }
-    {
-        let next = self.asked.plus_one();
-        self.asked = next;
-    }
-
-    // One comparison of keys more.
-    #[inline(always)]
-    pub(crate) fn add_compared(&mut self)
-        ensures { self.new ≡ compared_more 1 self.old }
-    {
-        let next = self.compared.plus_one();
-        self.compared = next;
-    }
-
-    // One bucket read more.
-    #[inline(always)]
-    pub(crate) fn add_looked(&mut self)
-        ensures { self.new ≡ looked_more 1 self.old }
-    {
-        let next = self.looked.plus_one();
-        self.looked = next;
     }
 }
 

@@ -115,17 +115,6 @@ impl<K, V> Columns<K, V> {
         (self.keys.swap_remove(index), self.values.swap_remove(index))
     }
 
-    /// Removes all pairs. The capacity stays.
-    pub fn clear(&mut self)
-    where
-        K: Drop,
-        V: Drop,
-        ensures { self.new ≡ columns_with self.old [] }
-    {
-        self.keys.clear();
-        self.values.clear();
-    }
-
     /// Removes the pair at this index. Each pair behind it gets the index before its own.
     pub fn shift_remove(&mut self, index: usize) -> (K, V)
         requires { index < length self.old.pairs }
@@ -135,8 +124,8 @@ impl<K, V> Columns<K, V> {
         (self.keys.remove(index), self.values.remove(index))
     }
 
-    /// Hands the value of the pair at this index to `f`, with its key. Where `f` returns a value the pair keeps its index and has
-    /// that value. Else the pair is removed, the last pair takes its index, and the key is returned.
+    /// Hands the value of the pair at this index to `f`, with its key. If `f` returns a value the pair keeps its index and has
+    /// that value. Otherwise the pair is removed, the last pair takes its index, and the key is returned.
     pub fn replace_with<F: FnOnce(&K, V) -> Option<V>>(&mut self, index: usize, f: F) -> Option<K>
         requires within { index < length self.old.pairs }
         requires callable { (key : Bor K) (value : V)

@@ -1,6 +1,6 @@
-//! The words that stand in buckets: 0 where a bucket is empty, else the entry index of its pair and one more.
+//! The words that stand in buckets: 0 if a bucket is empty, otherwise the entry index of its pair and one more.
 //!
-//! A word takes four bytes where that is enough for as many pairs as the buckets may hold, and eight elsewhere. Nothing lends
+//! A word takes four bytes if that is enough for as many pairs as the buckets may hold, and eight elsewhere. Nothing lends
 //! the words: each is read by `word_at`, which counts it.
 ghost use Rattle.std.specs.Prelude.{◌≡◌, ℕ, ◌-◌, ◌^◌, ◌<◌, ◌≤◌, List, [], length, replicate, slice_index, slice_set, IfOk, vec_len, vec_capacity};
 ghost use Rattle.half_store.specs.Capacity.{capacity_of, IsBucketCount};
@@ -13,13 +13,11 @@ use crate::capacity::capacity_of;
 use std::alloc::{AllocError, Global};
 use std::marker::Model;
 
-/// Words of one size, in order.
+/// Words of one size, in order. Searches and probes read buckets through this trait alone, so a test can hand them words that
+/// count how often they are read.
 pub trait Words {
     // the words
     ghost words: { Self → List ℕ };
-
-    // the greatest word that fits; of eight bytes, that of the most pairs that a table has memory for
-    ghost most: { Self → ℕ };
 
     /// How many there are.
     fn count(&self) -> usize
@@ -30,19 +28,25 @@ pub trait Words {
         requires { bucket < length (words self.now) }
         ensures value { result ≡ slice_index (words self.now) bucket }
         ensures counted { tally.new ≡ looked_more 1 tally.old };
+}
+
+/// Words that are written too.
+pub trait WordsMut: Words {
+    // the greatest word: 2^32 - 1 in four bytes, 2^62 in eight
+    ghost most: { Self → ℕ };
 
     /// Writes the word of this bucket.
     fn set_word(&mut self, bucket: usize, word: usize)
-        requires within { bucket < length (words self.old) }
+        requires within { bucket < length (Self.words self.old) }
         requires fits { word ≤ most self.old }
-        ensures words { words self.new ≡ slice_set (words self.old) bucket word }
+        ensures words { Self.words self.new ≡ slice_set (Self.words self.old) bucket word }
         ensures most { most self.new ≡ most self.old };
 }
 
 /// Words in a block that they fill.
 #[derive(Drop)]
 pub struct WordVec<T> {
-    words: Vec<T>,
+    pub(crate) words: Vec<T>,
 }
 
 impl<T> Model for WordVec<T> {
@@ -71,24 +75,10 @@ impl<T: Copy> WordVec<T> {
         }
         WordVec { words }
     }
-
-    /// A copy of the words, in memory for as many.
-    fn copied(&self, memory: Vec<T>) -> WordVec<T>
-        requires empty { memory.items ≡ [] }
-        requires len { vec_len memory ≡ 0 }
-        requires exact { vec_capacity memory ≡ length self.now }
-        ensures { result ≡ self.now }
-    {
-        WordVec {
-            words: copy_all(self.words.as_slice(), memory),
-        }
-    }
 }
 
 impl Words for WordVec<u32> {
     ghost words = { λ v. v };
-
-    ghost most = { λ v. 2 ^ 32 - 1 };
 
     #[inline(always)]
     fn count(&self) -> usize {
@@ -97,9 +87,13 @@ impl Words for WordVec<u32> {
 
     #[inline(always)]
     fn word_at(&self, bucket: usize, tally: &mut Tally) -> usize {
-        tally.add_looked();
+        tally.looked = tally.looked.plus_one();
         self.words[bucket] as usize
     }
+}
+
+impl WordsMut for WordVec<u32> {
+    ghost most = { λ v. 2 ^ 32 - 1 };
 
     #[inline(always)]
     fn set_word(&mut self, bucket: usize, word: usize) {
@@ -110,8 +104,6 @@ impl Words for WordVec<u32> {
 impl Words for WordVec<usize> {
     ghost words = { λ v. v };
 
-    ghost most = { λ v. 2 ^ 62 };
-
     #[inline(always)]
     fn count(&self) -> usize {
         self.words.len()
@@ -119,9 +111,13 @@ impl Words for WordVec<usize> {
 
     #[inline(always)]
     fn word_at(&self, bucket: usize, tally: &mut Tally) -> usize {
-        tally.add_looked();
+        tally.looked = tally.looked.plus_one();
         self.words[bucket]
     }
+}
+
+impl WordsMut for WordVec<usize> {
+    ghost most = { λ v. 2 ^ 62 };
 
     #[inline(always)]
     fn set_word(&mut self, bucket: usize, word: usize) {
@@ -130,7 +126,7 @@ impl Words for WordVec<usize> {
 }
 
 /// Up to this capacity the words of buckets take four bytes.
-const MOST_IN_FOUR_BYTES: usize = u32::MAX as usize;
+pub(crate) const MOST_IN_FOUR_BYTES: usize = u32::MAX as usize;
 
 /// The words of a table's buckets.
 #[derive(Drop)]
@@ -156,8 +152,6 @@ pub(crate) use of_either_size;
 impl Words for WordArray {
     ghost words = { words_of };
 
-    ghost most = { most_of };
-
     #[inline(always)]
     fn count(&self) -> usize {
         of_either_size!(self, words => words.count())
@@ -167,6 +161,10 @@ impl Words for WordArray {
     fn word_at(&self, bucket: usize, tally: &mut Tally) -> usize {
         of_either_size!(self, words => words.word_at(bucket, tally))
     }
+}
+
+impl WordsMut for WordArray {
+    ghost most = { most_of };
 
     #[inline(always)]
     fn set_word(&mut self, bucket: usize, word: usize) {
@@ -182,17 +180,6 @@ impl WordArray {
     {
         of_either_size!(self, array => array.words.fill(0))
     }
-
-    /// For how many words there is memory, and the bytes of one.
-    pub(crate) fn memory(&self) -> (usize, usize)
-        ensures count { result.0 ≡ length (words_of self.now) }
-        ensures size { result.1 ≡ word_size (most_of self.now) }
-    {
-        match self {
-            WordArray::FourBytes(array) => (array.words.capacity(), size_of::<u32>()),
-            WordArray::EightBytes(array) => (array.words.capacity(), size_of::<usize>()),
-        }
-    }
 }
 
 /// Memory for the words of a table's buckets, in which there are none yet.
@@ -205,20 +192,6 @@ pub enum WordMemory {
 }
 
 impl WordMemory {
-    /// Memory for this many buckets, whose words are wide enough for the pairs that the buckets may hold.
-    pub(crate) fn for_buckets(alloc: Global, count: usize) -> Result<WordMemory, AllocError>
-        requires { IsBucketCount count }
-        ensures unfilled { IfOk result IsUnfilled }
-        ensures count { IfOk result (λ m. room_of m ≡ count) }
-        ensures sized { IfOk result (λ m. AreWordsFor (most_in m) (capacity_of count)) }
-    {
-        if capacity_of(count) <= MOST_IN_FOUR_BYTES {
-            Ok(WordMemory::FourBytes(Vec::with_capacity(alloc, count)?))
-        } else {
-            Ok(WordMemory::EightBytes(Vec::with_capacity(alloc, count)?))
-        }
-    }
-
     /// The words of empty buckets, as many as there is memory for.
     pub(crate) fn into_empty(self) -> WordArray
         requires { IsUnfilled self }
@@ -241,10 +214,12 @@ impl WordMemory {
     {
         match (self, words) {
             (WordMemory::FourBytes(memory), WordArray::FourBytes(words)) => {
-                WordArray::FourBytes(words.copied(memory))
+                let words = copy_all(words.words.as_slice(), memory);
+                WordArray::FourBytes(WordVec { words })
             }
             (WordMemory::EightBytes(memory), WordArray::EightBytes(words)) => {
-                WordArray::EightBytes(words.copied(memory))
+                let words = copy_all(words.words.as_slice(), memory);
+                WordArray::EightBytes(WordVec { words })
             }
             _ => unreachable!(),
         }

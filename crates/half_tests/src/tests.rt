@@ -1,7 +1,8 @@
 //! What no contract and no script says, run as tests.
 
-mod callers;
 mod drops;
+mod guests;
+mod items;
 mod json;
 mod queries;
 mod refused_clones;

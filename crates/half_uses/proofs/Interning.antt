@@ -10,7 +10,7 @@ use Rattle.std.specs.Option.{option_map}
 use Rattle.std.specs.String.{string_eq, string_eq_equiv}
 use Rattle.halfbrown.specs.Pairs.{index_of, holds, put}
 use Rattle.halfbrown.proofs.lemmas.pairs.Indices.{first_of_index, first_within, first_passes, absent_of_index, index_of_pair}
-use Rattle.halfbrown.specs.Lookup.{IsAbsent}
+use Rattle.halfbrown.specs.Lookup.{KeyMissing}
 use Rattle.half_uses.specs.Interner.{number_of, with_text}
 
 -- ---- the place of the first that passes a test
@@ -97,7 +97,7 @@ module _ {Z V : Type 0} where
 
   module _ (pairs : List (String Z × V)) (texts : List (List ℕ)) (key : String Z) (text : List ℕ) (are : texts_of pairs ≡ texts)
       (stored : string_bytes key ≡ text) (new : number_of texts text ≡ None) where
-    absent : IsAbsent (string_eq key) pairs
+    absent : KeyMissing (string_eq key) pairs
     absent = absent_of_index (string_eq key) pairs
         (sym (index_of_text pairs (string_bytes key) ∙ (λ i. number_of (are i) (stored i)) ∙ new))
 

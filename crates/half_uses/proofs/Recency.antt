@@ -9,11 +9,11 @@ use Rattle.halfbrown.specs.Pairs.{IsQuery, value_of, holds, holds_by}
 use Rattle.halfbrown.specs.Updates.{HasPut, HasRemovedBy}
 use Rattle.half_uses.specs.BoundedCache.{newest, refreshed, making_way}
 
--- no more than the bound allows are kept whole
+-- a list of no more items than the bound is kept whole
 pub newest_all : {X : Type 0} (bound : ℕ) (xs : List X) → length xs ≤ bound → newest bound xs ≡ xs
 newest_all bound xs within = let none : length xs - bound ≡ 0 = omega (arith, within) in ap (λ n. drop n xs) none
 
--- one more at the end
+-- with one item more at the end one less of the others is kept
 pub newest-push : {X : Type 0} (bound : ℕ) (xs : List X) (x : X) → 0 < bound → newest bound (xs ++ x ∷ []) ≡ newest (bound - 1) xs ++ x ∷ []
 newest-push bound xs x some =
     let within : length xs - (bound - 1) ≤ length xs = omega arith in
@@ -21,7 +21,7 @@ newest-push bound xs x some =
     ap (λ n. drop n (xs ++ x ∷ [])) same ∙ drop-append-le (length xs - (bound - 1)) xs (x ∷ []) within
 
 module _ {K V : Type 0} (test : K → Bool) where
-  -- a pair that is found, its key and its value
+  -- the key of a found pair passes the test, and the look-up returns the value of the pair
   pub entry_passes : (ps : List (K × V)) (p : K × V) → lookup_entry test ps ≡ Some p → test p.0 ≡ true
   entry_passes [] p found = absurd (cc)
   entry_passes (q ∷ ps) p found = grind (arith, common_steps, found, entry_passes ps p)
@@ -34,7 +34,7 @@ module _ {K V : Type 0} (test : K → Bool) where
   entry_none [] none = refl
   entry_none (q ∷ ps) none = grind (arith, common_steps, none, entry_none ps)
 
-  -- nothing moves where no key passes
+  -- nothing moves if no key passes
   pub nothing_refreshed : (ps : List (K × V)) → lookup test ps ≡ None → ps ≡ refreshed test ps
   nothing_refreshed ps none = grind (arith, common_steps, none, entry_value ps)
 
@@ -44,7 +44,7 @@ pub way_of_held : {K V : Type 0} (eq : K → K → Bool) (bound : ℕ) (ps : Lis
 way_of_held eq bound ps k p found = grind (arith, common_steps, found, entry_value (eq k) ps p found)
 
 module _ {K V : Type 0} {eq : K → K → Bool} (laws : IsEquivalence eq) (test : K → Bool) (query : IsQuery eq test) where
-  -- once a pair is out its key is not held
+  -- once a pair is removed, its key is not held
   pub record IsOut (old new : List (K × V)) (p : K × V) : Type 0 where
     pub absent : holds eq new p.0 ≡ false
     pub held : holds_by test old ≡ true
@@ -59,7 +59,7 @@ module _ {K V : Type 0} {eq : K → K → Bool} (laws : IsEquivalence eq) (test 
         len = grind (arith, common_steps, held, removed.len);
       }
 
-  -- a pair that is taken out and put back leaves what each key has
+  -- removing a pair and putting it back leaves what each key has
   pub put_back : (old mid new : List (K × V)) (p : K × V) → lookup_entry test old ≡ Some p → HasRemovedBy eq test old mid
       → HasPut eq mid p.0 p.1 new
       → (any : K) → value_of eq new any ≡ value_of eq old any

@@ -5,7 +5,7 @@ use Rattle.half_uses.specs.declared.bank.Declined.{Declined}
 use Rattle.half_uses.specs.declared.bank.Declined.TheVariants.{Unknown, TooLittle}
 
 module _ {A : Type 0} (eq : A → A → Bool) where
-  -- the balance of an account, or nothing where there is none
+  -- the balance of an account, or nothing if there is none
   abbrev pub balance_of : List (A × ℕ) → A → ℕ
   balance_of accounts a = unwrap_or (value_of eq accounts a) 0
 

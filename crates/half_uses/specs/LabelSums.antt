@@ -19,14 +19,14 @@ use Rattle.std.specs.declared.string.String.{String}
 use Rattle.halfbrown.specs.Equality.{same_pairs, same_pairs-Decides}
 use Rattle.half_uses.specs.Labels.{label_hash, labels_number}
 
--- ---- a pair that is taken out
+-- ---- a pair that is removed
 
--- a sum, from the front
+-- the sum over a list is that of its first item and of the others
 sum_by-cons : {X : Type 0} (f : X → ℕ) (x : X) (xs : List X) → sum_by f (x ∷ xs) ≡ f x + sum_by f xs
 sum_by-cons f x xs = omega (arith, sum_by-append f (x ∷ []) xs)
 
 module _ {K V : Type 0} (test : K → Bool) where
-  -- what holds of all keys still does
+  -- a fact of all keys stays true without the pair
   all_kept : (P : K → Type 0) (ps : List (K × V)) → AllByRecursion P (keys_of ps) → AllByRecursion P (keys_of (remove_entry test ps))
   all_kept P [] all = all
   all_kept P (p ∷ ps) all =
@@ -67,7 +67,7 @@ module _ {K V : Type 0} (test : K → Bool) where
 
 -- ---- lists of pairs that are equal as maps
 
--- a value that equals some value equals a value
+-- what equals `Some v` is `Some` of an equal value
 matched : {V : Type 0} (eq : V → V → Bool) (v : V) (found : Option V) → option_eq eq (Some v) found ≡ true
     → (w : V) × (found ≡ Some w) × (eq v w ≡ true)
 matched eq v None same = absurd (cc)
@@ -79,7 +79,7 @@ module _ {K V : Type 0} (eq : K → K → Bool) (value_eq : V → V → Bool) (l
   Agree : List (K × V) → List (K × V) → Type 0
   Agree xs ys = (k : K) → option_eq value_eq (lookup (eq k) xs) (lookup (eq k) ys) ≡ true
 
-  -- without a pair, and without that of its key in the other list, they still agree
+  -- two lists that agree still do so once each has lost its pair of one key
   agree_on : (p : K × V) (xs ys : List (K × V)) → IsDistinct eq (keys_of (p ∷ xs)) → IsDistinct eq (keys_of ys) → Agree (p ∷ xs) ys
       → Agree xs (remove_entry (eq p.0) ys)
   unfolding Agree

@@ -1,7 +1,7 @@
 //! Accounts, between which money is moved and none is made or lost.
 ghost use Rattle.std.specs.Map.{values_of};
 ghost use Rattle.std.specs.Prelude.{◌≡◌, ◌+◌, ◌^◌, ◌<◌, true, false, [], length, sum, IfErr, OnOk, OnErr};
-ghost use Rattle.halfbrown.specs.Pairs.{value_of, holds, put, take_out};
+ghost use Rattle.halfbrown.specs.Pairs.{value_of, holds, put, swap_out};
 ghost use Rattle.half_uses.specs.Bank.{are_known, moved, IsDeclined};
 
 use halfbrown::{HashMap, Refused};
@@ -79,7 +79,7 @@ impl<A: Eq + Hash> Bank<A> {
     where
         A: Drop,
         ensures balance { result ≡ value_of A.eq self.old.balances.pairs account.now }
-        ensures after { self.new.balances.pairs ≡ take_out A.eq self.old.balances.pairs account.now }
+        ensures after { self.new.balances.pairs ≡ swap_out A.eq self.old.balances.pairs account.now }
     {
         let balance = self.balances.remove(account)?;
         self.total -= balance;

@@ -3,7 +3,7 @@ ghost use Rattle.std.specs.Prelude.{◌≡◌, None, Some, false, [], IfErr, IfO
 ghost use Rattle.std.specs.Map.{keys_of};
 ghost use Rattle.std.specs.Option.{option_copied, UnwrapsOrElse};
 ghost use Rattle.halfbrown.specs.Costs.{IsSearchCost};
-ghost use Rattle.halfbrown.specs.Growth.{IsRefusal, new_key_needs};
+ghost use Rattle.halfbrown.specs.Growth.{IsRefusal, capacity_for_new_key};
 ghost use Rattle.halfbrown.specs.Pairs.{index_of, value_of, holds};
 
 use halfbrown::{KeyHasher, RawEntryMut, Refusal, SizedHashMap, Tally};
@@ -89,7 +89,7 @@ impl<K: Eq + Hash, V, S: BuildHasher> Cache<K, V, S> {
             → value_of K.eq self.new.pairs other ≡ value_of K.eq self.old.pairs other) }
         ensures hashes { tally.new.asked ≡ tally.old.asked }
         ensures builder { self.new.builder ≡ self.old.builder }
-        ensures refused { IfErr result (IsRefusal (new_key_needs 0 self.old)) }
+        ensures refused { IfErr result (IsRefusal (capacity_for_new_key 0 self.old)) }
         ensures err { OnErr result (self.new ≡ self.old) }
     {
         value_in(&mut self.values, key.hash, key.key, compute, tally)
@@ -130,7 +130,7 @@ fn value_in<K: Eq + Hash + Drop, V: Copy, S: BuildHasher, F: FnOnce() -> V>(
         → value_of K.eq values.new.pairs other ≡ value_of K.eq values.old.pairs other) }
     ensures hashes { tally.new.asked ≡ tally.old.asked }
     ensures builder { values.new.builder ≡ values.old.builder }
-    ensures refused { IfErr result (IsRefusal (new_key_needs 0 values.old)) }
+    ensures refused { IfErr result (IsRefusal (capacity_for_new_key 0 values.old)) }
     ensures err { OnErr result (values.new ≡ values.old) }
 {
     let found = values

@@ -1,4 +1,5 @@
 //! Sets of labels as keys, by which a program sums what it measures.
+ghost use Rattle.std.specs.Fmt.{WritesOnOk};
 ghost use Rattle.std.specs.Map.{keys_of, values_of, lookup};
 ghost use Rattle.std.specs.List.{IsDistinct};
 ghost use Rattle.std.specs.Option.{option_copied};
@@ -6,13 +7,14 @@ ghost use Rattle.std.specs.Prelude.{◌≡◌, ◌≢◌, ◌+◌, ◌^◌, ◌<
 ghost use Rattle.std.specs.Prelude.{IfErr, IfOk, OnErr, OnOk};
 ghost use Rattle.std.specs.String.{string_eq};
 ghost use Rattle.std.proofs.Props.{props};
-ghost use Rattle.halfbrown.specs.Growth.{insert_needs, IsRefusal};
+ghost use Rattle.halfbrown.specs.Growth.{capacity_for_insert, IsRefusal};
 ghost use Rattle.halfbrown.specs.Iter.{pairs_left};
 ghost use Rattle.halfbrown.specs.Pairs.{value_of, put};
-ghost use Rattle.half_uses.specs.Labels.{labels_number, with_more};
+ghost use Rattle.half_uses.specs.Labels.{labels_number, others_text, with_more};
 
 use halfbrown::{DefaultHashBuilder, Equivalent, HashMap, Iter, Refusal, Refused};
 use std::alloc::Global;
+use std::fmt::{Display, Formatter, Result as Printed, Write};
 use std::hash::{BuildHasher, Hash, Hasher};
 
 /// Labels of a measurement: a text for each name, such as `GET` for `method`. They are keys: two sets are equal where each name has
@@ -66,6 +68,19 @@ impl Labels {
         self.texts.get(name)
     }
 
+    /// Each name with its text, in the order in which the names were first set.
+    ///
+    /// ```
+    /// for (name, text) in labels.iter() {
+    ///     report(name, text)?;
+    /// }
+    /// ```
+    pub fn iter(&self) -> Iter<'_, String, String>
+        ensures { pairs_left result ≡ self.now.texts.pairs }
+    {
+        self.texts.iter()
+    }
+
     /// Gives a name its text, and returns the one that it had. It costs one search. Fails only where the map
     /// needs memory, and then nothing changes, and the error has name, text and reason.
     ///
@@ -79,7 +94,7 @@ impl Labels {
     ) -> Result<Option<String>, Refused<String, String>>
         ensures before { IfOk result (λ old. old ≡ value_of string_eq self.old.texts.pairs name) }
         ensures after { OnOk result (self.new.texts.pairs ≡ put string_eq self.old.texts.pairs name text) }
-        ensures refused { IfErr result (λ refused. IsRefusal (insert_needs 32 string_eq self.old.texts name) refused.why) }
+        ensures refused { IfErr result (λ refused. IsRefusal (capacity_for_insert 32 string_eq self.old.texts name) refused.why) }
         ensures err { OnErr result (self.new.texts ≡ self.old.texts) }
         ensures handed_back { IfErr result (λ refused. (refused.key ≡ name) × (refused.value ≡ text)) }
     {
@@ -97,6 +112,36 @@ impl Labels {
         }
         number
     }
+}
+
+/// Labels print in order. A name or text may itself have `=` or a comma.
+///
+/// ```
+/// let printed = format!(in alloc; "{labels}")?; // method=GET, status=200
+/// ```
+impl Display for Labels {
+    ghost use Rattle.half_uses.specs.Labels.{labels_text};
+
+    ghost output = { λ labels. Some (labels_text labels.texts.pairs) };
+
+    fn fmt<W: Write>(&self, f: &mut Formatter<W>) -> Printed {
+        let mut labels = self.iter();
+        if let Some((name, text)) = labels.next() {
+            write!(f, "{name}={text}")?;
+            write_others(labels, f)?;
+        }
+        Ok(())
+    }
+}
+
+// Prints the labels that follow one.
+fn write_others<W: Write>(labels: Iter<'_, String, String>, f: &mut Formatter<W>) -> Printed
+    ensures { WritesOnOk W.write_str_gives f.old result (others_text (pairs_left labels.entry)) f.new }
+{
+    for (name, text) in labels {
+        write!(f, ", {name}={text}")?;
+    }
+    Ok(())
 }
 
 impl PartialEq for Labels {
@@ -219,7 +264,7 @@ impl<K: Eq + Hash> Sums<K> {
             ≡ Some (unwrap_or (value_of K.eq self.old.by_key.pairs key) 0 + value)) }
         ensures others { OnOk result ((other : K) → K.eq key other ≡ false
             → value_of K.eq self.new.by_key.pairs other ≡ value_of K.eq self.old.by_key.pairs other) }
-        ensures needs { OnErr result (insert_needs 32 K.eq self.old.by_key key ≢ None) }
+        ensures needs { OnErr result (capacity_for_insert 32 K.eq self.old.by_key key ≢ None) }
         ensures err { OnErr result (self.new.by_key ≡ self.old.by_key) }
     {
         add_to(&mut self.by_key, key, value)?;
@@ -242,7 +287,7 @@ fn add_to<K: Eq + Hash + Drop>(
         ≡ Some (unwrap_or (value_of K.eq sums.old.pairs key) 0 + value)) }
     ensures others { OnOk result ((other : K) → K.eq key other ≡ false
         → value_of K.eq sums.new.pairs other ≡ value_of K.eq sums.old.pairs other) }
-    ensures needs { OnErr result (insert_needs 32 K.eq sums.old key ≢ None) }
+    ensures needs { OnErr result (capacity_for_insert 32 K.eq sums.old key ≢ None) }
     ensures err { OnErr result (sums.new ≡ sums.old) }
 {
     *sums.entry(key)?.or_insert(0) += value;

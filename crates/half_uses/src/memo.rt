@@ -1,7 +1,7 @@
 //! Squares that are computed once: a struct that keeps a fact of its map.
 ghost use Rattle.std.specs.Prelude.{◌≡◌, ◌*◌, nat_eq, Some, IfErr, IfOk, OnOk, OnErr};
 ghost use Rattle.std.proofs.Props.{props};
-ghost use Rattle.halfbrown.specs.Growth.{IsRefusal, new_key_needs};
+ghost use Rattle.halfbrown.specs.Growth.{IsRefusal, capacity_for_new_key};
 ghost use Rattle.halfbrown.specs.Pairs.{value_of};
 ghost use Rattle.half_uses.specs.Memo.{AreSquares};
 
@@ -35,7 +35,7 @@ impl Squares {
     pub fn of(&mut self, n: u32) -> Result<u64, Refusal>
         ensures square { IfOk result (λ square. square ≡ n * n) }
         ensures stored { OnOk result (value_of nat_eq self.new.known.pairs n ≡ Some (n * n)) }
-        ensures refused { IfErr result (IsRefusal (new_key_needs 32 self.old.known)) }
+        ensures refused { IfErr result (IsRefusal (capacity_for_new_key 32 self.old.known)) }
         ensures err { OnErr result (self.new.known ≡ self.old.known) }
     {
         let hash = self.known.hasher().hash_one(&n);

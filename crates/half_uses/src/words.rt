@@ -2,7 +2,7 @@
 ghost use Rattle.std.specs.Prelude.{◌≡◌, List, ℕ, IfOk, string_bytes};
 ghost use Rattle.std.specs.Borrow.{Bor};
 ghost use Rattle.std.specs.List.{flat_map};
-ghost use Rattle.halfbrown.specs.CallerLoops.{CountsEach};
+ghost use Rattle.halfbrown.specs.ByKey.{CountsEach};
 ghost use Rattle.half_uses.specs.Words.{AreWordsOf, line_of, same_word};
 
 use halfbrown::{HashMap, Refusal};

@@ -20,17 +20,17 @@ pub use Rattle.half_store.specs.Work.{Work}
 pub use Rattle.half_store.specs.Search.{found_index}
 pub use Rattle.half_store.specs.declared.store.find.Found.{Found}
 pub use Rattle.half_store.specs.declared.store.find.Vacancy.{Vacancy}
-pub use Rattle.halfbrown.specs.CostRanges.{GrewBy, add_costs}
+pub use Rattle.halfbrown.specs.CostRanges.{TallyGrewBy, add_costs}
 pub use Rattle.halfbrown.specs.Costs.{IsSearchCost}
 pub use Rattle.halfbrown.specs.Entry.{with_entry_value, occupied}
-pub use Rattle.halfbrown.specs.EntryView.{entry_value, with_value, IsWritten}
-pub use Rattle.halfbrown.specs.Equality.{holds_pair}
-pub use Rattle.halfbrown.specs.FromIter.{Gives}
-pub use Rattle.halfbrown.specs.Growth.{insert_needs, is_full}
+pub use Rattle.halfbrown.specs.EntryView.{entry_value, map_with_value, IsWritten}
+pub use Rattle.halfbrown.specs.Equality.{holds_equal_pair}
+pub use Rattle.halfbrown.specs.Collect.{Gives}
+pub use Rattle.halfbrown.specs.Growth.{capacity_for_insert, is_full}
 pub use Rattle.halfbrown.specs.Insertion.{Prepares}
 pub use Rattle.halfbrown.specs.Layout.{IsMapInvariant}
-pub use Rattle.halfbrown.specs.Lookup.{IsIndexOf, IsAbsent, KeySearch}
-pub use Rattle.halfbrown.specs.Pairs.{value_of, holds, holds_by, put, set_value, take_out_by}
-pub use Rattle.halfbrown.specs.Updates.{Removes, HasPut, HasRemovedBy}
+pub use Rattle.halfbrown.specs.Lookup.{KeyFoundAt, KeyMissing, KeySearch}
+pub use Rattle.halfbrown.specs.Pairs.{value_of, holds, holds_by, put, set_value, swap_out_by}
+pub use Rattle.halfbrown.specs.Updates.{SwapRemoves, HasPut, HasRemovedBy}
 pub use Rattle.halfbrown.specs.Run.{Step}
 pub use Rattle.halfbrown.specs.State.{State, state_in, store_in, IsPlacedIn, IsVacancyIn, IsTableCapacity, map_with_pairs, WithPairs, IsValid}

@@ -16,7 +16,7 @@ between least greatest = record { least = least; greatest = greatest }
 abbrev pub add_ranges : Range → Range → Range
 add_ranges a b = between (a.least + b.least) (a.greatest + b.greatest)
 
--- how often a key is hashed, exactly; how many keys are compared and how many buckets are read, exactly where nothing is found
+-- how often a key is hashed, exactly; how many keys are compared and how many buckets are read, exactly if nothing is found
 pub record Cost : Type 0 where
   pub asked : ℕ
   pub compared : Range
@@ -36,19 +36,19 @@ plus_asked n cost = record cost { asked = n + cost.asked }
 abbrev pub plus_looked : ℕ → Cost → Cost
 plus_looked n cost = record cost { looked = add_ranges cost.looked (exactly n) }
 
--- a cost, but none where the call was refused before it did anything
+-- a cost, but none if the call was refused before it did anything
 abbrev pub unless_refused : Bool → Cost → Cost
 unless_refused refused cost =
     let unless : Range → Range = λ range. if refused then exactly 0 else range in
     record { asked = if refused then 0 else cost.asked; compared = unless cost.compared; looked = unless cost.looked }
 
 -- a number grew by a number in this range
-pub record GrewWithin (range : Range) (before after : ℕ) : Type 0 where
+pub record NumberGrewWithin (range : Range) (before after : ℕ) : Type 0 where
   pub at_least : before + range.least ≤ after
   pub at_most : after ≤ before + range.greatest
 
 -- a tally grew by this cost
-pub record GrewBy (cost : Cost) (before after : Work) : Type 0 where
+pub record TallyGrewBy (cost : Cost) (before after : Work) : Type 0 where
   pub asked : after.asked ≡ before.asked + cost.asked
-  pub compared : GrewWithin cost.compared before.compared after.compared
-  pub looked : GrewWithin cost.looked before.looked after.looked
+  pub compared : NumberGrewWithin cost.compared before.compared after.compared
+  pub looked : NumberGrewWithin cost.looked before.looked after.looked

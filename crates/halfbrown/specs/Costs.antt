@@ -6,7 +6,7 @@ use Rattle.half_store.specs.Reach.{reach, filling_reach, HomesApart}
 use Rattle.half_store.specs.Capacity.{buckets_of, least_table_capacity}
 use Rattle.half_store.specs.Table.{hit_reads_in, all_hit_reads_in}
 use Rattle.half_store.specs.Work.{Work, first_match_cost}
-use Rattle.halfbrown.specs.CostRanges.{Cost, Range, GrewBy, no_cost, plus_asked, plus_looked, unless_refused, exactly, between}
+use Rattle.halfbrown.specs.CostRanges.{Cost, Range, TallyGrewBy, no_cost, plus_asked, plus_looked, unless_refused, exactly, between}
 use Rattle.halfbrown.specs.State.{State, make_state, store_in}
 use Rattle.halfbrown.specs.Pairs.{keys_of, index_of, holds}
 use Rattle.halfbrown.specs.Growth.{is_full, is_vec_after}
@@ -21,8 +21,8 @@ module _ {K V : Type 0} (hash : K → ℕ) where
   key_hash_count pairs wanted = count_by (λ q. hash q == wanted) (keys_of pairs)
 
   -- the length of an unsuccessful probe for this hash in a table of this capacity; a vector has no buckets
-  abbrev pub probe_length : Bool → ℕ → List (K × V) → ℕ → ℕ
-  probe_length is_vec capacity pairs wanted = if is_vec then 0 else reach (map hash (keys_of pairs)) (buckets_of capacity) wanted
+  abbrev pub miss_reads : Bool → ℕ → List (K × V) → ℕ → ℕ
+  miss_reads is_vec capacity pairs wanted = if is_vec then 0 else reach (map hash (keys_of pairs)) (buckets_of capacity) wanted
 
   -- no two held keys of a table of this capacity have the same home bucket
   abbrev pub KeyHomesApart : ℕ → List (K × V) → Type 0
@@ -30,20 +30,20 @@ module _ {K V : Type 0} (hash : K → ℕ) where
 
   -- a search under this hash that found this index, or none
   module _ (wanted : ℕ) (found : Option ℕ) where
-    -- its comparisons: in a vector exactly all where it found none, and else at least those in order up to and with the key that it found; in a
-    -- table exactly the keys of that hash where it found none, and at least one of them where it found one
+    -- its comparisons: in a vector exactly all if it found none, and otherwise at least those in order up to and with the key that it found; in a
+    -- table exactly the keys of that hash if it found none, and at least one of them if it found one
     abbrev pub search_compares : Bool → List (K × V) → Range
     search_compares is_vec pairs =
         if is_vec then between (first_match_cost found (length pairs)) (length pairs)
         else (if is_some found then between 1 (key_hash_count pairs wanted) else exactly (key_hash_count pairs wanted))
 
-    -- its buckets: none in a vector; in a table exactly an unsuccessful probe where it found none, else at least one and fewer than that
+    -- its buckets: none in a vector; in a table exactly an unsuccessful probe if it found none, otherwise at least one and fewer than that
     abbrev pub search_reads : Bool → ℕ → List (K × V) → Range
     search_reads is_vec capacity pairs =
-        let probe = probe_length is_vec capacity pairs wanted in
+        let probe = miss_reads is_vec capacity pairs wanted in
         if is_vec then exactly 0 else (if is_some found then between 1 (probe - 1) else exactly probe)
 
-    -- what it costs, where the builder is asked for `asked` hashes
+    -- what it costs, if the builder is asked for `asked` hashes
     abbrev pub search_cost : ℕ → Bool → ℕ → List (K × V) → Cost
     search_cost asked is_vec capacity pairs =
         record { asked = asked; compared = search_compares is_vec pairs; looked = search_reads is_vec capacity pairs }
@@ -64,29 +64,29 @@ filling_reads hash capacity pairs = filling_reach (buckets_of capacity) (map has
 -- table a search that finds an index reads the same number of buckets each time (`hit`), and these numbers add up to what insertions of the
 -- pairs read (`hits`)
 pub record IsSearchCost {K V S : Type 0} (hash : S → K → ℕ) (wanted : ℕ) (m : State K V S) (found : Option ℕ) (asked : ℕ) (before after : Work) : Type 0 where
-  pub grew : GrewBy (search_cost (hash m.builder) wanted found asked m.is_vec m.capacity m.pairs) before after
+  pub grew : TallyGrewBy (search_cost (hash m.builder) wanted found asked m.is_vec m.capacity m.pairs) before after
   pub looked_once : m.is_vec ≡ false → is_some found ≡ true → KeyHomesApart (hash m.builder) m.capacity m.pairs
       → after.looked ≡ before.looked + 1
   pub hit : m.is_vec ≡ false → IfSome found (λ index. after.looked ≡ before.looked + hit_reads m index)
   pub hits : m.is_vec ≡ false → all_hit_reads m ≡ filling_reads (hash m.builder) m.capacity m.pairs
-  pub short : probe_length (hash m.builder) m.is_vec m.capacity m.pairs wanted ≤ length m.pairs + 1
+  pub short : miss_reads (hash m.builder) m.is_vec m.capacity m.pairs wanted ≤ length m.pairs + 1
 
 -- what one search in the map for a key, or by a query for one, cost, by the tally before it and after: `writes` is what it feeds a hasher, and
 -- `test` which keys it stands for
 module _ {Q K V S H : Type 0} (hashes : HasherGhosts S K H) (writes : Q → HashWrites) (test : Q → K → Bool) (key : Q) (m : State K V S) where
-  -- where the search hashed it, as it does in a table
+  -- if the search hashed it, as it does in a table
   abbrev pub IsLookupCost : Work → Work → Type 0
   IsLookupCost before after = IsSearchCost hashes.hash (hashes.hash_writes m.builder (writes key)) m
       (index_of (test key) (keys_of m.pairs)) (search_asked m.is_vec) before after
 
-  -- where its hash was handed in: the builder is not asked
-  abbrev pub IsHashedLookupCost : Work → Work → Type 0
-  IsHashedLookupCost before after = IsSearchCost hashes.hash (hashes.hash_writes m.builder (writes key)) m
+  -- if its hash was given: the builder is not asked
+  abbrev pub IsLookupCostByHash : Work → Work → Type 0
+  IsLookupCostByHash before after = IsSearchCost hashes.hash (hashes.hash_writes m.builder (writes key)) m
       (index_of (test key) (keys_of m.pairs)) 0 before after
 
--- the buckets that an insertion probe of a new key k reads, where the capacity is enough for it
+-- the buckets that an insertion probe of a new key k reads, if the capacity is enough for it
 abbrev pub insertion_reads : {K V S : Type 0} → (S → K → ℕ) → State K V S → K → ℕ
-insertion_reads hash m k = probe_length (hash m.builder) m.is_vec m.capacity m.pairs (hash m.builder k)
+insertion_reads hash m k = miss_reads (hash m.builder) m.is_vec m.capacity m.pairs (hash m.builder k)
 
 module _ {K V S : Type 0} (eq : K → K → Bool) (hash : S → K → ℕ) where
   -- what a search for k in the map costs
@@ -136,7 +136,7 @@ module _ {K V S : Type 0} (limit : ℕ) where
   grown m = make_state m (is_vec_after limit m) m.pairs (capacity_after_growth m) m.builder
 
   module _ (eq : K → K → Bool) (hash : S → K → ℕ) where
-    -- what an insertion of k costs: the switch hashes each key, one search follows in the form that it left, and, where a new key made
+    -- what an insertion of k costs: the switch hashes each key, one search follows in the form that it left, and, if a new key made
     -- the table grow, one insertion probe; a refused switch costs nothing
     abbrev pub insert_cost : State K V S → K → Bool → Cost
     insert_cost m k granted =
@@ -144,13 +144,13 @@ module _ {K V S : Type 0} (limit : ℕ) where
         (plus_looked (if granted && not (holds eq m.pairs k) && addition_grows m then insertion_reads hash (grown m) k else 0)
         (key_search_cost eq hash (switched m) k)))
 
-    -- what an insertion of a new key k without a search costs: the switch, the hash of k, and, where it is granted, one insertion probe
+    -- what an insertion of a new key k without a search costs: the switch, the hash of k, and, if it is granted, one insertion probe
     abbrev pub new_key_cost : State K V S → K → Bool → Cost
     new_key_cost m k granted =
         record no_cost { asked = insert_asked m granted; looked = exactly (if granted then insertion_reads hash (grown m) k else 0) }
 
     -- what `raw_entry_mut`, `from_key` of k and `or_insert_entry` of k cost: the switch hashes each key, and one search follows, once the capacity
-    -- is enough for one pair more; a new key is hashed again in a table, and one insertion probe made for it; where the capacity was refused
+    -- is enough for one pair more; a new key is hashed again in a table, and one insertion probe made for it; if the capacity was refused
     -- they cost nothing
     abbrev pub raw_insert_cost : State K V S → K → Bool → Cost
     raw_insert_cost m k granted =
@@ -160,7 +160,7 @@ module _ {K V S : Type 0} (limit : ℕ) where
 
     -- what an insertion of k cost, by the tally before it and after; in a table a held key is found as by each search (`hit`)
     pub record IsInsertCost (m : State K V S) (k : K) (granted : Bool) (before after : Work) : Type 0 where
-      pub grew : GrewBy (insert_cost m k granted) before after
+      pub grew : TallyGrewBy (insert_cost m k granted) before after
       pub looked_once : is_vec_after limit m ≡ false → granted ≡ true → holds eq m.pairs k ≡ true
           → KeyHomesApart (hash m.builder) (capacity_after_switch m) m.pairs → after.looked ≡ before.looked + 1
       pub hit : m.is_vec ≡ false → granted ≡ true

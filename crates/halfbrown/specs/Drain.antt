@@ -10,14 +10,14 @@ use Rattle.halfbrown.specs.declared.drain.Drain.{Drain}
 use Rattle.halfbrown.specs.State.{State, map_with_pairs, state_in}
 
 -- the map as it is once the `Drain` is dropped: its own store again, with no pair
-abbrev pub map_after : {K V S L P H : Type 0} {e : EqGhosts K} {h : HashGhosts K} {b : HasherGhosts S K H} {l : LimitGhosts L} {p : taken.Ghosts P K V}
+abbrev pub map_once_dropped : {K V S L P H : Type 0} {e : EqGhosts K} {h : HashGhosts K} {b : HasherGhosts S K H} {l : LimitGhosts L} {p : taken.Ghosts P K V}
     → Drain K V S L P H e h b l p → State K V S
-map_after {p} d = map_with_pairs (state_in (p.store d.pairs) d.map.now.builder) []
+map_once_dropped {p} d = map_with_pairs (state_in (p.store d.pairs) d.map.now.builder) []
 
 module _ {K V S L H : Type 0} {e : EqGhosts K} {h : HashGhosts K} {b : HasherGhosts S K H} {l : LimitGhosts L} {p : taken.Ghosts (StoreState K V) K V} where
   -- the pairs that are still to come, first to last
-  abbrev pub rest : Drain K V S L (StoreState K V) H e h b l p → List (K × V)
-  rest d = d.pairs.pairs
+  abbrev pub pairs_to_come : Drain K V S L (StoreState K V) H e h b l p → List (K × V)
+  pairs_to_come d = d.pairs.pairs
 
   -- old and new borrow the same map, with its builder, and leave it in the same form, with the same capacity
   pub record DrainsSameMap (old new : Drain K V S L (StoreState K V) H e h b l p) : Type 0 where
@@ -27,11 +27,11 @@ module _ {K V S L H : Type 0} {e : EqGhosts K} {h : HashGhosts K} {b : HasherGho
 
   -- `next` took s to t, and returned r: the first pair that was still to come; or None, and nothing changed
   abbrev pub DrainSteps : Drain K V S L (StoreState K V) H e h b l p → Option (K × V) → Drain K V S L (StoreState K V) H e h b l p → Type 0
-  DrainSteps s r t = MatchOption r ((rest s ≡ []) × (t ≡ s)) (λ x. (rest s ≡ x ∷ rest t) × DrainsSameMap s t)
+  DrainSteps s r t = MatchOption r ((pairs_to_come s ≡ []) × (t ≡ s)) (λ x. (pairs_to_come s ≡ x ∷ pairs_to_come t) × DrainsSameMap s t)
 
   -- s borrows the map of this ghost name; calls of `next` of any `Drain` give the first of the pairs that it had left, in order; and each state
   -- that they lead to from s borrows the same map, in the same form and capacity
   pub record StepsThroughPairs (name : GName) (s : Drain K V S L (StoreState K V) H e h b l p) : Type 0 where
     pub same_map : s.map.ghost_name ≡ name
-    pub pairs : YieldsInOrder DrainSteps rest
+    pub pairs : YieldsInOrder DrainSteps pairs_to_come
     pub keeps : (ps : List (K × V)) (t : Drain K V S L (StoreState K V) H e h b l p) → Yields DrainSteps s ps t → DrainsSameMap s t

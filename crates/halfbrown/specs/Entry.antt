@@ -1,6 +1,6 @@
 -- What contracts see of the entry of a key, and of a raw one, by the view of `EntryView`; what makes the entry of a key, and what it lends.
 pub use Rattle.halfbrown.specs.declared.entry.Entry.TheVariants.{Occupied, Vacant}
-use Rattle.std.specs.Prelude.{◌≡◌, ℕ, Bool, false, Option, None, Some, Result, IfOk, IfErr, ◌<◌, [], length, ⊤}
+use Rattle.std.specs.Prelude.{◌≡◌, ℕ, Bool, false, Option, None, Some, Result, IsOk, IfOk, IfErr, ◌<◌, [], length, ⊤}
 use Rattle.std.specs.Borrow.{MutBor, Fml, RattleType, follows, follows_so, RestsIfErr, RestsIfNone}
 use Rattle.halfbrown.specs.Ghosts.{EqGhosts, HashGhosts, HasherGhosts, LimitGhosts}
 use Rattle.half_store.specs.PairLists.{length-set_value_at}
@@ -11,8 +11,8 @@ use Rattle.halfbrown.specs.declared.raw_entry.RawEntryMut.{RawEntryMut}
 use Rattle.halfbrown.specs.declared.raw_entry.RawEntryMut.TheVariants as raw
 use Rattle.halfbrown.specs.declared.raw_entry.RawVacantEntryMut.{RawVacantEntryMut}
 use Rattle.halfbrown.specs.declared.refused.RefusedKey.{RefusedKey}
-use Rattle.halfbrown.specs.EntryView.{EntryView, map_of, is_occupied, entry_key, with_value, IsEntryOf, PutsThroughEntry}
-use Rattle.halfbrown.specs.Growth.{insert_needs, IsRefusal}
+use Rattle.halfbrown.specs.EntryView.{EntryView, map_of, is_occupied, entry_key, map_with_value, IsEntryOf, PutsThroughEntry}
+use Rattle.halfbrown.specs.Growth.{capacity_for_insert, IsRefusal}
 use Rattle.halfbrown.specs.Insertion.{Prepares}
 use Rattle.halfbrown.specs.State.{State, IsValid, IsPlacedIn}
 use Rattle.std.proofs.Common.{sym, subst}
@@ -22,8 +22,8 @@ use Rattle.halfbrown.specs.contracts.map.LimitedHashMap.{the_row}
 use Rattle.halfbrown.specs.contracts.entry.OccupiedEntry as entries
 
 -- a refused entry that needed this much capacity: the key comes back with the reason
-pub record HandsBackKey {K : Type 0} (k : K) (needs : Option ℕ) (refused : RefusedKey K) : Type 0 where
-  pub why : IsRefusal needs refused.why
+pub record HandsBackKey {K : Type 0} (k : K) (needed : Option ℕ) (refused : RefusedKey K) : Type 0 where
+  pub why : IsRefusal needed refused.why
   pub key : refused.key ≡ k
 
 module _ {K V S L H : Type 0} {e : EqGhosts K} {h : HashGhosts K} {b : HasherGhosts S K H} {l : LimitGhosts L} where
@@ -59,39 +59,40 @@ module _ {K V S L H : Type 0} {e : EqGhosts K} {h : HashGhosts K} {b : HasherGho
   raw_view (raw.Vacant v) = raw_vacant v
 
   -- what `entry` returns for k: where it is granted the entry of k, in the map with capacity for its pair (a full vector is a table now);
-  -- where it is refused the key and the reason
-  pub record MakesEntry (limit : ℕ) (eq : K → K → Bool) (m : MutBor (State K V S)) (k : K) (result : Result (Entry K V S L H e h b l) (RefusedKey K)) : Type 0 where
+  -- if it is refused the key and the reason
+  pub record MakesEntryOrHandsBack (limit : ℕ) (eq : K → K → Bool) (m : MutBor (State K V S)) (k : K) (result : Result (Entry K V S L H e h b l) (RefusedKey K)) : Type 0 where
     pub same_map : IfOk result (λ entry. (view entry).map.ghost_name ≡ m.ghost_name)
-    pub ok : IfOk result (λ entry. Prepares limit m.now (insert_needs limit eq m.now k) (map_of (view entry)))
     pub entry : IfOk result (λ entry. IsEntryOf eq (eq k) m.now.pairs (view entry))
     pub new_key : IfOk result (λ entry. is_occupied (view entry) ≡ false → entry_key (view entry) ≡ Some k)
     pub writes : IfOk result (λ entry. PutsThroughEntry limit eq m.now k (view entry))
-    pub returned : IfErr result (HandsBackKey k (insert_needs limit eq m.now k))
+    pub ok : IfOk result (λ entry. Prepares limit m.now (capacity_for_insert limit eq m.now k) (map_of (view entry)))
+    pub succeeds : capacity_for_insert limit eq m.now k ≡ None → IsOk result
+    pub returned : IfErr result (HandsBackKey k (capacity_for_insert limit eq m.now k))
     pub valid : IfOk result (λ entry. IsValid limit eq (map_of (view entry)))
 
-  pub still_within : (o : OccupiedEntry K V S L H e h b l) (value : V) → o.index < length (with_value (occupied o) value).pairs
-  unfolding with_value
+  pub still_within : (o : OccupiedEntry K V S L H e h b l) (value : V) → o.index < length (map_with_value (occupied o) value).pairs
+  unfolding map_with_value
   still_within o value = subst (λ n. o.index < n) (sym (length-set_value_at o.map.now.pairs o.index value)) o.within
 
   pub still_placed : (o : OccupiedEntry K V S L H e h b l) (value : V)
-      → IsPlacedIn (with_value (occupied o) value) (record { index = o.index; bucket = o.bucket })
-  unfolding with_value
+      → IsPlacedIn (map_with_value (occupied o) value) (record { index = o.index; bucket = o.bucket })
+  unfolding map_with_value
   still_placed o value = o.placed
 
   -- the entry, once this value is written
   abbrev pub with_entry_value : OccupiedEntry K V S L H e h b l → V → OccupiedEntry K V S L H e h b l
-  with_entry_value o value = record { map = record o.map { now = with_value (occupied o) value }; index = o.index; bucket = o.bucket; within = still_within o value; placed = still_placed o value }
+  with_entry_value o value = record { map = record o.map { now = map_with_value (occupied o) value }; index = o.index; bucket = o.bucket; within = still_within o value; placed = still_placed o value }
 
 module _ (K V S L H : RattleType) {e : EqGhosts K.Denot} {h : HashGhosts K.Denot} {b : HasherGhosts S.Denot K.Denot H.Denot} {l : LimitGhosts L.Denot} where
   -- the map has the last value written through the reference, for the entry's key
-  abbrev pub EntryLends : Entry K.Denot V.Denot S.Denot L.Denot H.Denot e h b l → MutBor V.Denot → Fml
-  EntryLends entry r = follows (the_row K V S L H e h b l) V (map_ref entry).ghost_name r.ghost_name (with_value (view entry))
+  abbrev pub EntryLendsValue : Entry K.Denot V.Denot S.Denot L.Denot H.Denot e h b l → MutBor V.Denot → Fml
+  EntryLendsValue entry r = follows (the_row K V S L H e h b l) V (map_ref entry).ghost_name r.ghost_name (map_with_value (view entry))
 
-  -- where no entry was made the map is as it was, and else it ends as the entry's map does
+  -- if no entry was made the map is as it was, and otherwise it ends as the entry's map does
   abbrev pub RestsIfRefused : {E : Type 0} → MutBor (State K.Denot V.Denot S.Denot) → Result (Entry K.Denot V.Denot S.Denot L.Denot H.Denot e h b l) E → Fml
   RestsIfRefused m r = RestsIfErr (the_row K V S L H e h b l) m (λ entry. (map_ref entry).ghost_name) r (λ n. n ≡ m.now)
 
-  -- where there is no entry the map is as it was, and else it ends as the entry's map does
+  -- if there is no entry the map is as it was, and otherwise it ends as the entry's map does
   abbrev pub RestsIfNoEntry : MutBor (State K.Denot V.Denot S.Denot) → Option (OccupiedEntry K.Denot V.Denot S.Denot L.Denot H.Denot e h b l) → Fml
   RestsIfNoEntry m r = RestsIfNone (the_row K V S L H e h b l) m (λ o. o.map.ghost_name) r (λ n. n ≡ m.now)
 

@@ -22,15 +22,15 @@ module _ {K V : Type 0} (eq : K → K → Bool) (value_eq : V → V → Bool) wh
   same_pairs left right = hash_map_eq eq value_eq (as_map left) (as_map right)
 
   -- whether an equal key is held with an equal value
-  abbrev pub holds_pair : List (K × V) → K × V → Bool
-  holds_pair pairs p = option_map_or (value_eq p.1) (value_of eq pairs p.0) false
+  abbrev pub holds_equal_pair : List (K × V) → K × V → Bool
+  holds_equal_pair pairs p = option_map_or (value_eq p.1) (value_of eq pairs p.0) false
 
   -- the keys of the left pairs in order, up to and with the first pair that the right does not hold
   abbrev pub keys_while_same : List (K × V) → List (K × V) → List K
   keys_while_same [] right = []
-  keys_while_same (p ∷ left) right = p.0 ∷ (if holds_pair right p then keys_while_same left right else [])
+  keys_while_same (p ∷ left) right = p.0 ∷ (if holds_equal_pair right p then keys_while_same left right else [])
 
-  -- the keys that a comparison searches for in the right list, in order: none where the lengths differ
+  -- the keys that a comparison searches for in the right list, in order: none if the lengths differ
   abbrev pub searched_keys : List (K × V) → List (K × V) → List K
   searched_keys left right = if length left == length right then keys_while_same left right else []
 

@@ -18,16 +18,16 @@ module _ (K V S L H : RattleType) (key : HashMembers K.Denot) (build : HasherGho
     abbrev pub LendsValueAt : ℕ → MutBor V.Denot → Fml
     LendsValueAt index r = Lends map_row V m r (λ w. map_with_pairs m.now (set_value_at m.now.pairs index w))
 
-    -- the same, and where there is no pair at this index the map stays as it is
+    -- the same, and if there is no pair at this index the map stays as it is
     abbrev pub LendsValueIfWithin : ℕ → Option (MutBor V.Denot) → Fml
     LendsValueIfWithin index r = LendsIf map_row V m r (λ w. map_with_pairs m.now (set_value_at m.now.pairs index w)) m.now
 
-    -- the pair whose key passes the test has the last value written through the reference, and where none is held the map stays as it is
+    -- the pair whose key passes the test has the last value written through the reference, and if none is held the map stays as it is
     abbrev pub LendsValueIfHeld : (K.Denot → Bool) → Option (MutBor V.Denot) → Fml
     LendsValueIfHeld test r = LendsIf map_row V m r (λ w. map_with_pairs m.now (set_value test m.now.pairs w)) m.now
 
     -- once the loan of this name ends, the pairs have the values that were written through it, and the keys that they had; a proof knows
-    -- these values where a slice was lent, and not where an iterator was
+    -- these values if a slice was lent, and not if an iterator was
     abbrev pub LendsValues : GName → Fml
     LendsValues name = follows map_row (Array V 0) m.ghost_name name (λ vs. map_with_pairs m.now (set_values m.now.pairs vs))
 

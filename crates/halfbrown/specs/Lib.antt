@@ -1,11 +1,11 @@
-pub mod CallerLoops
+pub mod ByKey
 pub mod CostRanges
 pub mod Costs
 pub mod Drain
 pub mod Entry
 pub mod EntryView
 pub mod Equality
-pub mod FromIter
+pub mod Collect
 pub mod Ghosts
 pub mod Growth
 pub mod Insertion
@@ -22,7 +22,7 @@ pub mod Run
 pub mod State
 pub mod Updates
 pub mod formers
--- What callers need of the store's words, so that they list this crate alone.
+-- What callers need of the store's words, so that they list only this crate.
 pub use Rattle.half_store.specs.Capacity
 pub use Rattle.half_store.specs.Hash
 pub use Rattle.half_store.specs.Reach

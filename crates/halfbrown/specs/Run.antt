@@ -5,15 +5,15 @@ use Rattle.halfbrown.specs.declared.run.Command.{Command}
 use Rattle.halfbrown.specs.declared.run.Command.TheVariants.{Insert, InsertNew, EntryOrInsert, RawOrInsert, Get, Remove, Clear, Reserve, Shrink, IsVec, Len}
 use Rattle.halfbrown.specs.declared.run.Reply.{Reply}
 use Rattle.halfbrown.specs.State.{State, IsValid, WithPairs}
-use Rattle.halfbrown.specs.CostRanges.{Cost, no_cost, add_costs, GrewBy}
+use Rattle.halfbrown.specs.CostRanges.{Cost, no_cost, add_costs, TallyGrewBy}
 use Rattle.halfbrown.specs.Costs.{key_search_cost, insert_cost, raw_insert_cost, new_key_cost}
-use Rattle.halfbrown.specs.Pairs.{holds, value_of, pair_of, take_out}
+use Rattle.halfbrown.specs.Pairs.{holds, value_of, stored_pair_of, swap_out}
 use Rattle.half_store.specs.Work.{Work}
 use Rattle.halfbrown.specs.declared.run.Reply.TheVariants.{Was, Added, Present, Value, Found, Removed, Done, Form, Length, Refused}
-use Rattle.halfbrown.specs.Growth.{is_full, insert_needs, new_key_needs, reserve_needs, Refusal, IsRefusal, IsReserved, Shrinks}
+use Rattle.halfbrown.specs.Growth.{is_full, capacity_for_insert, capacity_for_new_key, capacity_for_reserve, Refusal, IsRefusal, IsReserved, ShrinksOrStays}
 use Rattle.halfbrown.specs.Insertion.{Puts}
 
--- the value of k where it is held, else v: putting it changes no pair that is held
+-- the value of k if it is held, otherwise v: putting it changes no pair that is held
 abbrev pub value_or : {K V : Type 0} → (K → K → Bool) → List (K × V) → K → V → V
 value_or eq pairs k v = unwrap_or (value_of eq pairs k) v
 
@@ -24,7 +24,7 @@ granted_reply eq is_vec pairs (InsertNew k v) = if holds eq pairs k then Present
 granted_reply eq is_vec pairs (EntryOrInsert k v) = Value (value_or eq pairs k v)
 granted_reply eq is_vec pairs (RawOrInsert k v) = Value (value_or eq pairs k v)
 granted_reply eq is_vec pairs (Get k) = Found (value_of eq pairs k)
-granted_reply eq is_vec pairs (Remove k) = Removed (pair_of eq pairs k)
+granted_reply eq is_vec pairs (Remove k) = Removed (stored_pair_of eq pairs k)
 granted_reply eq is_vec pairs Clear = Done
 granted_reply eq is_vec pairs (Reserve additional) = Done
 granted_reply eq is_vec pairs Shrink = Form is_vec
@@ -32,33 +32,33 @@ granted_reply eq is_vec pairs IsVec = Form is_vec
 granted_reply eq is_vec pairs Len = Length (length pairs)
 
 module _ {K V S : Type 0} (limit : ℕ) (eq : K → K → Bool) where
-  -- the capacity that the command needs, where it needs more
-  abbrev pub command_needs : State K V S → Command K V → Option ℕ
-  command_needs m (Insert k v) = insert_needs limit eq m k
-  command_needs m (InsertNew k v) = if holds eq m.pairs k then None else new_key_needs limit m
-  command_needs m (EntryOrInsert k v) = insert_needs limit eq m k
-  command_needs m (RawOrInsert k v) = new_key_needs limit m
-  command_needs m (Reserve additional) = reserve_needs limit m additional
-  command_needs m command = None
+  -- the capacity that the command needs, if it needs more
+  abbrev pub capacity_for_command : State K V S → Command K V → Option ℕ
+  capacity_for_command m (Insert k v) = capacity_for_insert limit eq m k
+  capacity_for_command m (InsertNew k v) = if holds eq m.pairs k then None else capacity_for_new_key limit m
+  capacity_for_command m (EntryOrInsert k v) = capacity_for_insert limit eq m k
+  capacity_for_command m (RawOrInsert k v) = capacity_for_new_key limit m
+  capacity_for_command m (Reserve additional) = capacity_for_reserve limit m additional
+  capacity_for_command m command = None
 
   -- what a granted command leaves
   abbrev pub Leaves : State K V S → Command K V → State K V S → Type 0
-  Leaves old (Insert k v) new = Puts limit eq old k v (insert_needs limit eq old k) new
-  Leaves old (InsertNew k v) new = MatchBool (holds eq old.pairs k) (new ≡ old) (Puts limit eq old k v (new_key_needs limit old) new)
-  Leaves old (EntryOrInsert k v) new = Puts limit eq old k (value_or eq old.pairs k v) (insert_needs limit eq old k) new
-  Leaves old (RawOrInsert k v) new = Puts limit eq old k (value_or eq old.pairs k v) (new_key_needs limit old) new
-  Leaves old (Remove k) new = WithPairs old (take_out eq old.pairs k) new
+  Leaves old (Insert k v) new = Puts limit eq old k v (capacity_for_insert limit eq old k) new
+  Leaves old (InsertNew k v) new = MatchBool (holds eq old.pairs k) (new ≡ old) (Puts limit eq old k v (capacity_for_new_key limit old) new)
+  Leaves old (EntryOrInsert k v) new = Puts limit eq old k (value_or eq old.pairs k v) (capacity_for_insert limit eq old k) new
+  Leaves old (RawOrInsert k v) new = Puts limit eq old k (value_or eq old.pairs k v) (capacity_for_new_key limit old) new
+  Leaves old (Remove k) new = WithPairs old (swap_out eq old.pairs k) new
   Leaves old Clear new = WithPairs old [] new
   Leaves old (Reserve additional) new = IsReserved limit old additional new
-  Leaves old Shrink new = Shrinks limit old new
+  Leaves old Shrink new = ShrinksOrStays limit old new
   Leaves old command new = new ≡ old
 
   -- from old, the command may have this reply and leave new: a refused command comes back, with the reason, and has changed nothing
   abbrev pub Executes : State K V S → Command K V → Reply K V → State K V S → Type 0
-  Executes old command (Refused back why) new = (back ≡ command) × IsRefusal (command_needs old command) why × (new ≡ old)
+  Executes old command (Refused back why) new = (back ≡ command) × IsRefusal (capacity_for_command old command) why × (new ≡ old)
   Executes old command reply new = (reply ≡ granted_reply eq new.is_vec old.pairs command) × Leaves old command new
 
--- the reason, where the reply is a refusal
+-- the reason, if the reply is a refusal
 abbrev pub refusal_in : {K V : Type 0} → Reply K V → Option Refusal
 refusal_in (Refused command why) = Some why
 refusal_in reply = None
@@ -136,7 +136,7 @@ module _ {K V S : Type 0} (limit : ℕ) (eq : K → K → Bool) where
     -- from old, the command may have this reply and leave new, and the work grew by what it costs
     pub record ExecutesAtCost (old : State K V S) (command : Command K V) (reply : Reply K V) (new : State K V S) (before after : Work) : Type 0 where
       pub step : Executes limit eq old command reply new
-      pub cost : GrewBy (command_cost old command (is_granted reply)) before after
+      pub cost : TallyGrewBy (command_cost old command (is_granted reply)) before after
 
     -- what a step costs
     abbrev pub step_cost : Step K V S → Cost

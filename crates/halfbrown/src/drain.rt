@@ -36,10 +36,10 @@ pub struct Drain<
 
 impl<'a, K: Eq + Hash + Drop, V: Drop, S: KeyHasher<K>, L: Limit, P: IntoStore<K, V>> Drop
     for Drain<'a, K, V, S, L, P> {
-    ghost use Rattle.halfbrown.specs.Drain.{map_after};
+    ghost use Rattle.halfbrown.specs.Drain.{map_once_dropped};
 
     fn drop(self)
-        ensures after { WithPairs (map_after self.entry) [] self.exit.0.now }
+        ensures after { WithPairs (map_once_dropped self.entry) [] self.exit.0.now }
         ensures valid { IsValid L.LIMIT K.eq self.exit.0.now }
     {
         let Drain { map, pairs } = self;
@@ -48,7 +48,7 @@ impl<'a, K: Eq + Hash + Drop, V: Drop, S: KeyHasher<K>, L: Limit, P: IntoStore<K
 }
 
 impl<K: Eq + Hash, V, S: KeyHasher<K>, L: Limit> LimitedHashMap<K, V, S, L> {
-    ghost use Rattle.halfbrown.specs.Drain.{rest, map_after, StepsThroughPairs};
+    ghost use Rattle.halfbrown.specs.Drain.{pairs_to_come, map_once_dropped, StepsThroughPairs};
 
     /// Takes all pairs out, and returns them in order. Once what it returns is dropped, even before its end, the map
     /// holds no pair: those that were left are dropped too. The form, the capacity and the builder stay.
@@ -63,9 +63,9 @@ impl<K: Eq + Hash, V, S: KeyHasher<K>, L: Limit> LimitedHashMap<K, V, S, L> {
     /// assert!(rt; ages.is_empty());
     /// ```
     pub fn drain(&mut self) -> Drain<'_, K, V, S, L>
-        ensures pairs { rest result ≡ self.old.pairs }
-        ensures small { length (rest result) < 2 ^ 63 }
-        ensures after { WithPairs self.old [] (map_after result) }
+        ensures pairs { pairs_to_come result ≡ self.old.pairs }
+        ensures small { length (pairs_to_come result) < 2 ^ 63 }
+        ensures after { WithPairs self.old [] (map_once_dropped result) }
         ensures runs { StepsThroughPairs self.entry.ghost_name result }
     {
         let pairs = self.take_store();
@@ -75,13 +75,13 @@ impl<K: Eq + Hash, V, S: KeyHasher<K>, L: Limit> LimitedHashMap<K, V, S, L> {
 
 impl<'a, K: Eq + Hash + Drop, V: Drop, S: KeyHasher<K>, L: Limit> Iterator
     for Drain<'a, K, V, S, L> {
-    ghost use Rattle.halfbrown.specs.Drain.{rest, DrainSteps};
+    ghost use Rattle.halfbrown.specs.Drain.{pairs_to_come, DrainSteps};
 
     type Item = (K, V);
 
     ghost next_gives = { DrainSteps };
 
-    ghost remaining = { λ s. at_most (length (rest s)) };
+    ghost remaining = { λ s. at_most (length (pairs_to_come s)) };
 
     #[inline]
     fn next(&mut self) -> Option<(K, V)> {
@@ -90,9 +90,9 @@ impl<'a, K: Eq + Hash + Drop, V: Drop, S: KeyHasher<K>, L: Limit> Iterator
     }
 
     fn size_hint(&self) -> (usize, Option<usize>)
-        ensures lower { IsWithinCount result.0 (at_most (length (rest self.now))) }
-        ensures upper { IfSome result.1 (UpTo (at_most (length (rest self.now)))) }
-        ensures exact { result ≡ (length (rest self.now), Some (length (rest self.now))) }
+        ensures lower { IsWithinCount result.0 (at_most (length (pairs_to_come self.now))) }
+        ensures upper { IfSome result.1 (UpTo (at_most (length (pairs_to_come self.now)))) }
+        ensures exact { result ≡ (length (pairs_to_come self.now), Some (length (pairs_to_come self.now))) }
     {
         let len = self.pairs.len();
         (len, Some(len))

@@ -14,7 +14,7 @@ use crate::{AtMost, DefaultHashBuilder, KeyHasher, Limit, LimitedHashMap};
 use half_store::Vacancy;
 use std::hash::Hash;
 
-/// The entry of a key, which `entry` returns. The map has been searched, and has capacity for the pair where the key is
+/// The entry of a key, which `entry` returns. The map has been searched, and has capacity for the pair if the key is
 /// not held. So no call on the entry fails, hashes a key or compares two.
 ///
 /// ```

@@ -4,7 +4,7 @@ ghost use Rattle.std.proofs.Common.{rules, sym};
 ghost use Rattle.std.specs.Cmp.Lexicographic.{bytes_decides};
 ghost use Rattle.std.specs.String.{string_bytes};
 
-/// A key whose clones equal it. A map of such keys has the trait `Clone`, where its values have it and its builder is
+/// A key whose clones equal it. A map of such keys has the trait `Clone`, if its values have it and its builder is
 /// `Copy`, and a struct with such a map can derive it.
 ///
 /// ```

@@ -12,7 +12,7 @@ use std::hash::{BuildHasher, Hash};
 ///
 /// Every `BuildHasher` implements it for all keys, so nobody writes it. The map has it as the bound of its builder, in place of
 /// `BuildHasher`, because its contracts then say the hash of a key in one word, as `S.hash`. A function of maps with
-/// any builder takes `S: BuildHasher` as a parameter. Only where its own contract speaks of hashes does it take
+/// any builder takes `S: BuildHasher` as a parameter. Only if its own contract speaks of hashes does it take
 /// `S: KeyHasher<K>`.
 ///
 /// ```
@@ -22,7 +22,7 @@ use std::hash::{BuildHasher, Hash};
 /// assert!(rt; knows(&ages, 1));
 /// ```
 pub trait KeyHasher<K: Hash> {
-    /// The builder's hasher, which clauses name where a map is lent (`S.Hasher.row`). It stands here so that a function with
+    /// The builder's hasher, which clauses name if a map is lent (`S.Hasher.row`). It stands here so that a function with
     /// `S: KeyHasher<K>`, which is all that a map asks, can hand a map on.
     type Hasher;
 

@@ -45,15 +45,15 @@ pub type HashMap<K, V, S = DefaultHashBuilder> = LimitedHashMap<K, V, S, AtMost<
 /// A map in two forms. Up to the limit its pairs are stored in a vector, which is searched by `==`, and nothing is
 /// hashed. A full vector becomes a hash table at the next insertion, `entry` or `raw_entry_mut` that succeeds, even for
 /// a key that is already held, and a map that is made with capacity for more pairs is a table at once. Only
-/// `shrink_to_fit` turns it back, where no more pairs are held than the limit, and a `Drain` that is forgotten.
+/// `shrink_to_fit` turns it back, if no more pairs are held than the limit, and a `Drain` that is forgotten.
 ///
 /// In both forms the pairs keep the order of their insertion, until a removal moves the last pair to the index that
 /// became free, or, in a vector, `replace_entry_with` swaps its pair with the last. `shift_remove` keeps the order, and
 /// takes longer.
 ///
-/// A search in a vector hashes nothing, and compares keys up to the first that is equal. Where keys have at most eight
+/// A search in a vector hashes nothing, and compares keys up to the first that is equal. If keys have at most eight
 /// bytes, most calls compare them 16 at a time, from the last of these to the first. A search in a table hashes the key
-/// once, probes from its home bucket on, and compares only keys of the same hash. How many buckets it reads where it
+/// once, probes from its home bucket on, and compares only keys of the same hash. How many buckets it reads if it
 /// finds nothing is decided by the home buckets of the held keys, whatever the history.
 ///
 /// Its limit `L` is a type, `AtMost<8>` for 8 pairs. `SizedHashMap` takes the number instead. A function of maps of

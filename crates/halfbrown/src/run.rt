@@ -1,6 +1,6 @@
 //! Whole runs: a list of commands, done one after another, with a reply to each.
 ghost use Rattle.std.specs.Prelude.{◌≡◌, ◌+◌, ◌*◌, ◌≤◌, true, false, [], length, vec_capacity, IsOk, IfOk, IfErr, OnErr};
-ghost use Rattle.halfbrown.specs.CostRanges.{GrewBy};
+ghost use Rattle.halfbrown.specs.CostRanges.{TallyGrewBy};
 ghost use Rattle.halfbrown.specs.Run.{Runs, cost_of, has_shrink, Executes, ExecutesAtCost};
 
 use crate::{KeyHasher, Limit, LimitedHashMap, Refused};
@@ -13,7 +13,7 @@ use std::hash::Hash;
 pub enum Command<K, V> {
     /// `insert`.
     Insert(K, V),
-    /// `contains_key`, and `insert_nocheck` where the key is not held.
+    /// `contains_key`, and `insert_nocheck` if the key is not held.
     InsertNew(K, V),
     /// `entry`, and `or_insert` through it.
     EntryOrInsert(K, V),
@@ -46,9 +46,9 @@ pub enum Reply<K, V> {
     Present(K, V),
     /// The value that the key has now: the one that it had, or the one that was inserted.
     Value(V),
-    /// The value of the key, or none where it is not held.
+    /// The value of the key, or none if it is not held.
     Found(Option<V>),
-    /// The pair that was removed, or none where the key was not held.
+    /// The pair that was removed, or none if the key was not held.
     Removed(Option<(K, V)>),
     /// It is done.
     Done,
@@ -62,7 +62,7 @@ pub enum Reply<K, V> {
 
 /// Runs the commands in order, and returns a reply to each.
 ///
-/// Memory for all replies is allocated first. Where that fails, the error has the commands, and nothing was done. The
+/// Memory for all replies is allocated first. If that fails, the error has the commands, and nothing was done. The
 /// reply to a command that fails says so, and the run goes on. It costs what its commands cost.
 ///
 /// ```
@@ -98,7 +98,7 @@ pub fn run_counted<K: Eq + Hash + Drop, V: Copy, S: KeyHasher<K>, L: Limit>(
     // There are steps that lead from the old map to the new one, with these commands and replies, and the tally grew by what they cost.
     ensures run { IfOk result (λ replies.
         (run : Runs L.LIMIT K.eq map.old commands.items replies.items map.new)
-        × GrewBy (cost_of L.LIMIT K.eq S.hash run.steps) tally.old tally.new) }
+        × TallyGrewBy (cost_of L.LIMIT K.eq S.hash run.steps) tally.old tally.new) }
     ensures empty { commands.items ≡ [] → IsOk result }
     ensures memory { IfOk result (λ replies. vec_capacity replies ≡ length commands.items) }
 
@@ -111,7 +111,7 @@ pub fn run_counted<K: Eq + Hash + Drop, V: Copy, S: KeyHasher<K>, L: Limit>(
     ensures hashes { has_shrink commands.items ≡ false
         → tally.new.asked ≤ tally.old.asked + (2 * length commands.items + L.LIMIT) }
 
-    // Where memory for the replies is refused, nothing was done.
+    // If memory for the replies is refused, nothing was done.
     ensures returned { IfErr result (λ back. back.items ≡ commands.items) }
     ensures err { OnErr result (map.new ≡ map.old) }
     ensures no_work { OnErr result (tally.new ≡ tally.old) }
@@ -122,7 +122,7 @@ pub fn run_counted<K: Eq + Hash + Drop, V: Copy, S: KeyHasher<K>, L: Limit>(
     let mut left = commands.into_iter();
     while let Some(command) = left.next() {
         replies.push_reserved(step(map, command, tally));
-        let _ = map.len(); // tells the prover what holds of every map, and does nothing
+        let _ = map.len(); // tells the prover `IsValid` of the map
     }
     left.destroy_empty();
     Ok(replies)
@@ -173,7 +173,7 @@ fn insert<K: Eq + Hash + Drop, V, S: KeyHasher<K>, L: Limit>(
     }
 }
 
-// Inserts a pair where the key is not held, by a search and an insertion without one.
+// Inserts a pair if the key is not held, by a search and an insertion without one.
 fn insert_new<K: Eq + Hash + Drop, V: Copy, S: KeyHasher<K>, L: Limit>(
     map: &mut LimitedHashMap<K, V, S, L>,
     key: K,
@@ -192,7 +192,7 @@ fn insert_new<K: Eq + Hash + Drop, V: Copy, S: KeyHasher<K>, L: Limit>(
     }
 }
 
-// Inserts a pair where the key is not held, by one search.
+// Inserts a pair if the key is not held, by one search.
 fn entry_or_insert<K: Eq + Hash + Drop, V: Copy, S: KeyHasher<K>, L: Limit>(
     map: &mut LimitedHashMap<K, V, S, L>,
     key: K,
@@ -208,7 +208,7 @@ fn entry_or_insert<K: Eq + Hash + Drop, V: Copy, S: KeyHasher<K>, L: Limit>(
     }
 }
 
-// Inserts a pair where the key is not held, through a raw entry.
+// Inserts a pair if the key is not held, through a raw entry.
 fn raw_or_insert<K: Eq + Hash + Drop, V: Copy, S: KeyHasher<K>, L: Limit>(
     map: &mut LimitedHashMap<K, V, S, L>,
     key: K,

@@ -111,7 +111,7 @@ line_read old mid new line more part r done o e p =
       record { stops = StopsAt-append o.taken part 10 o.goes_on p.stops; taken = through.0; rest = through.1 },
     )
 
--- what holds anyway holds on an error
+-- a fact that holds anyway also holds on an error
 pub on_err : {T E X : Type 0} (r : Result T E) → X → OnErr r X
 on_err (Ok x) h = tt
 on_err (Err e) h = h

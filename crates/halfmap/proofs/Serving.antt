@@ -78,7 +78,7 @@ all_taken (Some text) (Some rest) new lines line none t r =
     let at_end : rest ≡ [] = take_through-nil 10 rest (ap length (sym r.taken) ∙ none) in
     sym (t ∙ ap (λ l. lines ++ lines_of l) at_end ∙ append-nil lines)
 
--- a line has a byte just where one is kept of it
+-- a line has a byte exactly if one is kept of it
 pub some_line : (more : Bool) (line whole : List ℕ) → line ≡ kept whole → (IsTrue more ↔ 0 < length line) → more ≡ true → 0 < length whole
 some_line more line whole e more_is is_true = omega (arith, more_is.0 is_true, ap length e, length-take KEPT_BYTES whole)
 
@@ -117,7 +117,7 @@ module _ {S : Type 0} where
     written = Appends-kept before after flushed (output_of s.answers) s.written keeps;
   }
 
--- the same of other names for what was known, and of what is kept afterwards
+-- the same if what was known and what is kept afterwards have other names
 pub serves_by : {S : Type 0} (input given : Option (List ℕ)) (first last : State ℕ ℕ S) (before was after left : Option (List ℕ))
     → input ≡ given → before ≡ was → first.pairs ≡ [] → first.is_vec ≡ true → first.capacity ≡ 0
     → Serves input first last before after → Keeps after left → ServesFromEmpty S given was left

@@ -15,7 +15,7 @@ use Rattle.halfmap.specs.Request.{Writes, WritesAfter, WritesTwo, IsTextOf, is_s
 use Rattle.halfmap.specs.declared.request.Request.{Request}
 use Rattle.halfmap.specs.declared.request.Request.TheVariants.{Insert, Get, Remove, Form}
 
--- clauses on an answer: what holds anyway, and what follows from what a call said of it
+-- clauses on an answer: a fact that holds anyway, and one that follows from a call's clause
 pub none_then : {A X : Type 0} (r : Option A) → X → IfNone r X
 none_then None x = x
 none_then (Some a) x = tt

@@ -5,7 +5,7 @@ use Rattle.std.specs.Prelude.{◌≡◌, ◌≢◌, ℕ, List, ◌++◌, codes, 
 abbrev pub is_lf : ℕ → Bool
 is_lf b = b == 10
 
--- the text is the line without this end, where it has it
+-- the text is the line without this end, if it has it
 abbrev pub IsWithout : List ℕ → List ℕ → List ℕ → Type 0
 IsWithout end line text =
     (line ≡ text ++ end) ⊎ ((text ≡ line) × ((front : List ℕ) → line ≢ front ++ end))

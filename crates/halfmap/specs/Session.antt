@@ -12,7 +12,7 @@ use Rattle.std.specs.declared.hash.FoldHasher.{FoldHasher}
 abbrev pub HashBuilder : Type 0
 HashBuilder = BuildHasherDefault FoldHasher
 
--- the byte at the front of the first line, or a line of its own where there is none
+-- the byte at the front of the first line, or a line of its own if there is none
 abbrev pub in_front : ℕ → List (List ℕ) → List (List ℕ)
 in_front byte [] = (byte ∷ []) ∷ []
 in_front byte (line ∷ lines) = (byte ∷ line) ∷ lines

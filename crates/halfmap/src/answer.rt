@@ -15,7 +15,7 @@ pub(crate) type Numbers = SizedHashMap<u64, u64, DefaultHashBuilder, 5>;
 pub(crate) enum Answer {
     /// The key is not held, or was not before.
     Absent,
-    /// The value that was replaced or taken out.
+    /// The value that was replaced or removed.
     Was(u64),
     /// An insertion was refused.
     NoRoom,

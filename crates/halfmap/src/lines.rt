@@ -13,7 +13,7 @@ use std::io::{BufRead, BufReader, BufWriter, ErrorKind, Read, Write};
 pub(crate) const KEPT_BYTES: usize = 46;
 
 /// Stores the next line with its end, or the first bytes of one that is too long for a request, in place of the last line.
-/// False where the input has ended. On an error the bytes that were taken are stored in the same way.
+/// Returns false if the input has ended. On an error the bytes that were taken are stored in the same way.
 ///
 /// It may have to wait for the line. By `_answers` the caller shows that no answer is held back meanwhile.
 pub(crate) fn read_line<R: Read, W: Write + Drop>(
@@ -38,7 +38,8 @@ pub(crate) fn read_line<R: Read, W: Write + Drop>(
     Err(Stopped)
 }
 
-// Takes what the reader has of the line, and adds it to what is kept. True where the line, or the input, has ended.
+// Takes what the reader has of the line, and adds it to what is kept. Returns true if the line, or the input, has
+// ended.
 fn read_part<R: Read>(reader: &mut BufReader<R>, line: &mut Vec<u8>) -> io::Result<bool>
     ensures { AddsPart (unread R.remaining reader.old) (unread R.remaining reader.new)
         line.old.items line.new.items result }

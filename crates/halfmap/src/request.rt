@@ -10,17 +10,17 @@ const MOST_DIGITS: usize = 20;
 
 /// What a line asks of the map.
 pub(crate) enum Request {
-    /// `i K V`: give key K the value V.
+    /// `i K V`: store the value V for key K.
     Insert(u64, u64),
     /// `g K`: the value of K.
     Get(u64),
-    /// `r K`: take out K.
+    /// `r K`: remove K.
     Remove(u64),
     /// `f`: the form and the length.
     Form,
 }
 
-/// Reads a line without its end. None where it asks for nothing that is known.
+/// Reads a line without its end. Returns none if it asks for nothing that is known.
 pub(crate) fn parse(text: &[u8]) -> Option<Request>
     ensures some { IfSome result (λ request. IsTextOf request text.now) }
     ensures none { IfNone result ((request : RequestValue) → ¬ (IsTextOf request text.now)) }

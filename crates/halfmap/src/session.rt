@@ -118,7 +118,7 @@ fn without_end(line: &[u8]) -> &[u8]
     without(b"\r", without(b"\n", line))
 }
 
-// The text without this end, where it has it.
+// The text without this end, if it has it.
 fn without<'a>(end: &[u8], text: &'a [u8]) -> &'a [u8]
     ensures { IsWithout end.now text.now result.now }
 {

@@ -1,6 +1,6 @@
-//! Reads a JSON document from standard input, and prints the value that a path leads to: `json_at /a/0`. A path is a JSON Pointer
-//! (RFC 6901), and with none the whole document is printed. Members stay in their order, and of those of one name the last value
-//! wins, at the place of the first.
+//! Reads a JSON document from standard input, and prints the value that a path leads to: `json_at /a/0`. A path is a JSON
+//! Pointer (RFC 6901); without one the whole document is printed. Members stay in their order. If some share a name, the last
+//! value wins, at the place of the first.
 #![tactic(auto)]
 
 mod failure;

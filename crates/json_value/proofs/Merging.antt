@@ -7,7 +7,7 @@ use Rattle.json_value.proofs.Writing.{Members}
 use Rattle.json_value.specs.declared.value.error.Error.{Error}
 use Rattle.json_value.specs.declared.value.error.Error.TheVariants.{Memory}
 
--- an error that is one, and what else holds
+-- an error that is one, and what holds besides
 pub err_also : {A E : Type 0} (P : E → Type 0) (Q : Type 0) (r : Result A E) → IsErrAnd r P → Q → IfErr r (λ e. P e × Q)
 err_also P Q (Ok x) is also = tt
 err_also P Q (Err e) is also = (is, also)

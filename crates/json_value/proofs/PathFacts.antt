@@ -92,7 +92,7 @@ pub other_kept : (v : Value) (path other : List ℕ) (w : Value) → value_at v 
     → value_at (put_at v path w) other ≡ value_at v other
 other_kept v path other w there part = put_at_other v path other w (paths_apart v path other there part)
 
--- the same of steps, and of one step, to which paths that are written out compute
+-- the same of steps, and of one step: paths that are written out compute to these
 pub steps_kept : (v : Value) (steps others : List (List ℕ)) (w : Value) → descendant v steps ≢ None → steps_differ steps others ≡ true
     → descendant (put_steps v steps w) others ≡ descendant v others
 steps_kept v steps others w there part = put_steps_other v steps others w (part_by v steps others there part)

@@ -44,7 +44,7 @@ module _ (v : Value) (i : ℕ) (y : Value) where
       ∙ ap (option_and_then (slice_get (slice_set (children v) i y))) (place_put step)
 
 module _ (v : Value) (step : List ℕ) (y : Value) where
-  -- where the step and another lead to the same place, both lead to what was put
+  -- if the step and another lead to the same place, both lead to what was put
   pub put_same : (x : Value) (other : List ℕ) → place v step ≡ place v other → child v step ≡ Some x → child (put_child v step y) other ≡ Some y
   put_same x other same some = grind (arith, child_put, get-set)
 

@@ -62,7 +62,7 @@ index_of-zero [] zero long = refl
 index_of-zero (c ∷ step) zero long = rw (eqb-true c 48 zero, ne_eqb (length step) 0 (λ e. omega arith)) refl
 
 module _ {E : Type 0} where
-  -- what is parsed is the index, where no plus and no zero stands before it
+  -- what is parsed is the index, if no plus and no zero stands before it
   pub index_of-parsed : (step : List ℕ) (r : Result ℕ E) → ParsesUnsigned {E = E} 64 10 step r → (slice_index step 0 == 43) ≡ false
       → ((slice_index step 0 == 48) ≡ true → length step ≤ 1) → result_ok r ≡ index_of step
   unfolding index_of

@@ -10,8 +10,8 @@ use Rattle.std.specs.String.{string_bytes, string_eq}
 use Rattle.std.specs.declared.alloc.Global.{Global}
 use Rattle.std.specs.declared.string.String.{String}
 use Rattle.halfbrown.proofs.callers.Texts.{keyed_by-put}
-use Rattle.halfbrown.specs.FromIter.{put_all}
-use Rattle.halfbrown.specs.CallerLoops.{keyed_by}
+use Rattle.halfbrown.specs.Collect.{put_all}
+use Rattle.halfbrown.specs.ByKey.{keyed_by}
 use Rattle.halfbrown.specs.Pairs.{put, set_value, holds}
 use Rattle.json.specs.Json.{Json, item}
 use Rattle.json.specs.Value.{value_view, items_view, members_view, items_of}

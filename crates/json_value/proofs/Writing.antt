@@ -94,7 +94,7 @@ module _ (before begun all done : List Token) where
       between token.begin_object token.end_object _ e f g
       ∙ ap (λ ts. before ++ token.begin_object ∷ ts) (sym (members_written m.pairs)) ∙ ap (λ j. before ++ json_tokens j) (sym (json_of-Object m))
 
--- what can be written is known by its JSON alone
+-- only its JSON decides what can be written
 pub writable_as : (v : Value) (j : Json) (d : ℕ) → json_of v ≡ j → HasNumbers (json_of v) → depth (json_of v) ≤ d → HasNumbers j × (depth j ≤ d)
 writable_as v j d is numbers deep = subst (λ k. HasNumbers k × (depth k ≤ d)) is (numbers, deep)
 

@@ -2,8 +2,8 @@
 use Rattle.std.specs.Prelude.{ℕ, List, [], ◌∷◌}
 use Rattle.std.specs.Str.{bytes_eq}
 use Rattle.std.specs.String.{string_bytes}
-use Rattle.halfbrown.specs.FromIter.{collected}
-use Rattle.halfbrown.specs.CallerLoops.{keyed_by}
+use Rattle.halfbrown.specs.Collect.{collected}
+use Rattle.halfbrown.specs.ByKey.{keyed_by}
 use Rattle.json.specs.Json.{Json, null, boolean, number, string, array, object, Items, no_items, item, Members, no_members, member}
 use Rattle.json.specs.Value.{items_of}
 use Rattle.json_value.specs.declared.value.Value.{Value, fold-Value}

@@ -8,7 +8,7 @@ use Rattle.std.specs.declared.hash.BuildHasherDefault.{BuildHasherDefault}
 use Rattle.std.specs.declared.hash.FoldHasher.{FoldHasher}
 use Rattle.std.specs.declared.string.String.{String}
 use Rattle.std.specs.declared.vec.Vec.{Vec}
-use Rattle.halfbrown.specs.FromIter.{put_all}
+use Rattle.halfbrown.specs.Collect.{put_all}
 use Rattle.halfbrown.specs.State.{State}
 use Rattle.json_value.specs.declared.value.error.Error.{Error}
 use Rattle.json_value.specs.declared.value.Value.{Value}
@@ -43,7 +43,7 @@ as_list = by_kind Some (λ m. None) None
 abbrev pub is_object : Value → Bool
 is_object = by_kind (λ vs. false) (λ m. true) false
 
--- the members in order, of which only an object has any
+-- the members in order; only an object has any
 abbrev pub members_of : Value → List (String Global × Value)
 members_of = by_kind (λ vs. []) (λ m. m.pairs) []
 
@@ -61,7 +61,7 @@ PutsFirst old others new =
     (first left : List (String Global × Value)) × (refused : String Global × Value)
     × (others ≡ first ++ refused ∷ left) × (new ≡ put_all string_eq old first)
 
--- what a refused merge leaves: of or into no object all as it was, and else some first members of the other are put
+-- what a refused merge leaves: if one is no object, all as it was; otherwise some first members of the other are put
 abbrev pub IsRefusedMerge : Error → Value → Value → Value → Type 0
 IsRefusedMerge Error.Invalid old other new = ⊥
 IsRefusedMerge Error.NotThere old other new = ⊥

@@ -27,7 +27,7 @@ abbrev mutual
       if c == 48 then option_map (λ name. 126 ∷ name) (name_of step)
       else (if c == 49 then option_map (λ name. 47 ∷ name) (name_of step) else None)
 
--- the index that a step writes: digits, of which the first is a 0 only where it is the last too
+-- the index that a step writes: digits, and the first is a 0 only if it is the last too
 unfoldable pub index_of : List ℕ → Option ℕ
 index_of [] = None
 index_of (c ∷ step) =
@@ -80,7 +80,7 @@ abbrev pub steps_of : Option (List ℕ) → List (List ℕ)
 steps_of None = []
 steps_of (Some path) = slice_split (λ b. b == 47) path
 
--- the value in which w is what a path leads to, and all else is the same
+-- the value in which w is what a path leads to, and nothing besides has changed
 abbrev pub put_at : Value → List ℕ → Value → Value
 put_at v [] w = w
 put_at v (c ∷ path) w = if c == 47 then put_steps v (slice_split (λ b. b == 47) path) w else v

@@ -4,7 +4,7 @@ ghost use Rattle.std.specs.Map.{remove_entry};
 ghost use Rattle.std.specs.Borrow.{LendsIf, sem};
 ghost use Rattle.std.specs.Option.{option_copied, option_copied_mut};
 ghost use Rattle.std.specs.String.{string_eq};
-ghost use Rattle.halfbrown.specs.FromIter.{put_all};
+ghost use Rattle.halfbrown.specs.Collect.{put_all};
 ghost use Rattle.halfbrown.specs.Pairs.{put, value_of};
 ghost use Rattle.json_value.specs.Members.{PutsFirst};
 
@@ -17,7 +17,7 @@ mod write;
 pub use error::Error;
 use halfbrown::HashMap;
 
-/// A JSON value. Two are equal whatever the order of their members, and numbers only where they are written alike.
+/// A JSON value. Two are equal whatever the order of their members, and numbers only if they are written alike.
 ///
 /// ```
 /// let paid = Value::parse(alloc, r#"{"paid": true, "id": 7}"#)?;
@@ -42,7 +42,7 @@ impl Value {
     ghost use Rattle.json_value.specs.contracts.value.Value.{the_row};
     ghost use Rattle.json_value.specs.declared.value.Value.{List, Object};
 
-    /// The value of the member of this name, or none where there is none, or where this is no object. It costs one look-up.
+    /// Returns the value of the member of this name, or none if there is none or this is no object. It costs one look-up.
     ///
     /// ```
     /// assert_eq!(rt; order.get("paid"), Some(&Value::Bool(true)));
@@ -57,7 +57,7 @@ impl Value {
         }
     }
 
-    /// The members of an object, to be changed, or none where this is no object.
+    /// Returns the members of an object, to be changed, or none if this is no object.
     ///
     /// ```
     /// if let Some(members) = order.as_object_mut()
@@ -76,7 +76,7 @@ impl Value {
         }
     }
 
-    /// The items of a list, to be changed, or none where this is no list.
+    /// Returns the items of a list, to be changed, or none if this is no list.
     ///
     /// ```
     /// let mut colours = Value::parse(alloc, r#"["red", "blue"]"#)?;
@@ -94,10 +94,10 @@ impl Value {
         }
     }
 
-    /// Gives the member of this name a value, and returns the value that it had. A new member comes last. It fails with
-    /// `NoObject` where this is no object, and as `insert` of the map does: a new member may need memory, and so may the
-    /// switch of a vector of 32 members, also for a held one. On error nothing changes. It costs one look-up, and now and
-    /// then the growth of the map.
+    /// Sets the value of the member of this name, and returns the value that it had. A new member comes last. It fails
+    /// with `NoObject` if this is no object, and otherwise as `insert` of the map does. A new member may need memory, and
+    /// so may the switch of a vector of 32 members, even for a held one. On error nothing changes. It costs one look-up,
+    /// and now and then the growth of the map.
     ///
     /// ```
     /// let before = order.set(String::from_str(alloc, "paid")?, Value::Bool(false))?;
@@ -119,7 +119,7 @@ impl Value {
         }
     }
 
-    /// Takes the member of this name out, and returns its value. The others keep their order. Where there is none, nothing
+    /// Removes the member of this name, and returns its value. The others keep their order. If there is none, nothing
     /// changes. It costs one look-up, and then time that grows with the most members that there were.
     ///
     /// ```
@@ -138,8 +138,8 @@ impl Value {
         }
     }
 
-    /// Puts the members of another object into this one, in order. Of a name in both the other's value wins, at the place of
-    /// this one's. It fails with `NoObject` where one of the two is no object, and then nothing changes. It fails with
+    /// Puts the members of another object into this one, in order. If both have a name, the other's value wins, at the place
+    /// of this one's. It fails with `NoObject` if one of the two is no object, and then nothing changes. It fails with
     /// `Memory` at a member for which there is none, and those before it are put. It costs one look-up for each member of
     /// the other, and the growth of the map.
     ///

@@ -6,7 +6,7 @@ ghost use Rattle.std.specs.Prelude.{◌≡◌, true, OnOk};
 use std::fmt::Debug;
 use std::test::Fail;
 
-/// Fails where the two differ.
+/// Fails if the two differ.
 pub fn assert_same<T: PartialEq + Debug + Drop>(
     actual: T,
     expected: T,
@@ -20,7 +20,7 @@ pub fn assert_same<T: PartialEq + Debug + Drop>(
     Err(Fail::new(format_args!("{what}: {actual:?}, and not {expected:?}")))
 }
 
-/// Fails where the two differ, and says at which key, call or the like.
+/// Fails if the two differ, and says at which key, call or the like.
 pub fn assert_same_at<A: Debug + Drop, T: PartialEq + Debug + Drop>(
     at: A,
     actual: T,
@@ -33,14 +33,4 @@ pub fn assert_same_at<A: Debug + Drop, T: PartialEq + Debug + Drop>(
         return Ok(());
     }
     Err(Fail::new(format_args!("{at:?}: {what}: {actual:?}, and not {expected:?}")))
-}
-
-/// Fails where it is false.
-pub fn assert_true(is_true: bool, what: &str) -> Result<(), Fail>
-    ensures { OnOk result (is_true ≡ true) }
-{
-    if is_true {
-        return Ok(());
-    }
-    Err(Fail::new(format_args!("it is false: {what}")))
 }

@@ -5,8 +5,8 @@ use Rattle.std.specs.Str.Lossy.{utf8_valid_len}
 use Rattle.word_count.specs.declared.failure.Failure.{Failure}
 use Rattle.word_count.specs.declared.failure.Failure.TheVariants.{NotText, Refused, Io}
 
--- a failure that calls the input no text is right, and names the first byte that is none; memory is wanted only for a text; nothing is read
--- or written here
+-- a failure that calls the input no text is right, and names the first byte that is none. Memory is asked only for a text.
+-- Nothing is read or written here
 abbrev pub IsFailureOf : List ℕ → Failure → Type 0
 IsFailureOf bytes (NotText at) = ¬ (IsUtf8 bytes) × (at ≡ utf8_valid_len bytes)
 IsFailureOf bytes (Refused why) = IsUtf8 bytes

@@ -1,4 +1,4 @@
-//! Counts the words of standard input, and prints each with how often it comes, in the order in which they first come.
+//! Counts the words of standard input, and prints each with its count, in order of first occurrence.
 #![tactic(auto)]
 
 mod failure;

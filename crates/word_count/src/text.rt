@@ -2,7 +2,7 @@
 ghost use Rattle.std.specs.Prelude.{◌≡◌, ℕ, List, IfErr, IfOk, string_bytes};
 ghost use Rattle.std.specs.Borrow.{Bor};
 ghost use Rattle.std.specs.List.{flat_map};
-ghost use Rattle.halfbrown.specs.CallerLoops.{CountsEach};
+ghost use Rattle.halfbrown.specs.ByKey.{CountsEach};
 ghost use Rattle.half_uses.specs.Words.{AreWordsOf, line_of, same_word};
 ghost use Rattle.word_count.specs.Failure.{IsFailureOf};
 

@@ -10,7 +10,7 @@ use Rattle.std.specs.Option.{option_eq}
 use Rattle.std.proofs.lemmas.Bool.{and_parts}
 use Rattle.std.proofs.lemmas.List.Sums.{count_by-le-length}
 use Rattle.std.proofs.lemmas.Map.Entries.{length-keys_of}
-use Rattle.halfbrown.specs.Equality.{same_pairs, holds_pair, keys_while_same, searched_keys, same_pairs-Decides}
+use Rattle.halfbrown.specs.Equality.{same_pairs, holds_equal_pair, keys_while_same, searched_keys, same_pairs-Decides}
 use Rattle.half_laws.specs.ComparisonLaws.{OrderLaw, PairsLaw, ComparisonLaw}
 use Rattle.halfbrown.proofs.lemmas.map.Equality.{same_pairs-by_pairs, all_searched, none_searched}
 use Rattle.halfbrown.specs.Pairs.{value_of}
@@ -19,7 +19,7 @@ use Rattle.std.proofs.Math.Nat.{mul-le-mul_left}
 use Rattle.half_store.specs.PairLists.{index_of}
 use Rattle.half_store.specs.Work.{Work}
 use Rattle.halfbrown.specs.CostRanges.{Range, between, exactly}
-use Rattle.halfbrown.specs.Costs.{key_hash_count, probe_length, search_asked, IsKeySearchCost, AreSearchCosts}
+use Rattle.halfbrown.specs.Costs.{key_hash_count, miss_reads, search_asked, IsKeySearchCost, AreSearchCosts}
 use Rattle.halfbrown.specs.State.{State}
 
 module _ {K V : Type 0} (eq : K → K → Bool) (value_eq : V → V → Bool) (laws : IsEquivalence eq) where
@@ -85,7 +85,7 @@ module _ {K V S : Type 0} (eq : K → K → Bool) (hash : S → K → ℕ) (m : 
   unfolding AreSearchCosts
   looked_in_vector vector [] before after costs = ap (λ w. w.looked) costs
   looked_in_vector vector (k ∷ ks) before after costs =
-      let probe = probe_length (hash m.builder) m.is_vec m.capacity m.pairs (hash m.builder k) in
+      let probe = miss_reads (hash m.builder) m.is_vec m.capacity m.pairs (hash m.builder k) in
       let none = looks_none m.is_vec (cond (is_some (index_of (eq k) (keys_of m.pairs))) (between 1 (probe - 1)) (exactly probe)) vector in
       omega (arith, costs.1.grew.looked.at_least, costs.1.grew.looked.at_most, none, looked_in_vector vector ks costs.0 after costs.2)
 
@@ -100,7 +100,7 @@ module _ {K V : Type 0} (eq : K → K → Bool) (value_eq : V → V → Bool) wh
   length_searched (p ∷ left) right =
       omega (
         arith,
-        shorter_by (holds_pair eq value_eq right p) (keys_while_same eq value_eq left right) (length left)
+        shorter_by (holds_equal_pair eq value_eq right p) (keys_while_same eq value_eq left right) (length left)
             (length_searched left right),
       )
 
@@ -108,12 +108,12 @@ module _ {K V : Type 0} (eq : K → K → Bool) (value_eq : V → V → Bool) wh
   searched_most left right =
       shorter_by (length left == length right) (keys_while_same eq value_eq left right) (length left) (length_searched left right)
 
-  -- one for each, where all are held
-  length_all : (left right : List (K × V)) → list_all (holds_pair eq value_eq right) left ≡ true
+  -- one for each, if all are held
+  length_all : (left right : List (K × V)) → list_all (holds_equal_pair eq value_eq right) left ≡ true
       → length (keys_while_same eq value_eq left right) ≡ length left
   length_all [] right all = refl
   length_all (p ∷ left) right all =
-      let both = and_parts (holds_pair eq value_eq right p) (list_all (holds_pair eq value_eq right) left) all in
+      let both = and_parts (holds_equal_pair eq value_eq right p) (list_all (holds_equal_pair eq value_eq right) left) all in
       omega (arith, ap (λ b. length (cond b (keys_while_same eq value_eq left right) [])) both.0, length_all left right both.1)
 
 -- one hash for each search at most

@@ -23,7 +23,7 @@ miss_total_law hashes capacity held = refl
 pub table_count : (capacity : ℕ) → IsTableCapacity capacity → IsBucketCount (buckets_of capacity) × (capacity_of (buckets_of capacity) ≡ capacity)
 table_count capacity is = grind (arith, common_steps, buckets_for-least, buckets_of-capacity_of)
 
--- what holds of bucket counts holds of the capacities of tables
+-- a fact of every bucket count holds of every table capacity
 module _ (Law : ℕ → ℕ → ℕ → Type 0) where
   pub in_half_full_tables : UpToHalf Law → InHalfFullTables (λ hashes capacity held. Law hashes (buckets_of capacity) held)
   in_half_full_tables law bits capacity held is some fits half =

@@ -126,7 +126,7 @@ short_law hashes m hash =
           omega (arith, load-le hashes m c.last c.size)
     ]
 
--- a probe reads one bucket where the first is not loaded, and one alone
+-- a probe reads exactly one bucket if the first is not loaded
 pub one_bucket_law : OneBucketLaw
 one_bucket_law hashes m hash some =
     let b : ℕ = home m hash in

@@ -16,9 +16,9 @@ use Rattle.half_store.proofs.lemmas.capacity.{four-le_count, buckets_for-least, 
 use Rattle.half_laws.proofs.lemmas.probes.{history_law as reach_history, crowding_law}
 use Rattle.halfbrown.specs.declared.run.Command.{Command}
 use Rattle.halfbrown.specs.declared.run.Command.TheVariants.{Insert, InsertNew, EntryOrInsert, RawOrInsert}
-use Rattle.halfbrown.specs.CostRanges.{Range, Cost, GrewBy, GrewWithin, exactly, between, add_ranges, no_cost}
+use Rattle.halfbrown.specs.CostRanges.{Range, Cost, TallyGrewBy, NumberGrewWithin, exactly, between, add_ranges, no_cost}
 use Rattle.halfbrown.specs.Costs.{search_asked, key_hash_count}
-use Rattle.halfbrown.specs.Costs.{probe_length, search_compares, search_reads, search_cost, key_search_cost, switched, grown, insertion_reads}
+use Rattle.halfbrown.specs.Costs.{miss_reads, search_compares, search_reads, search_cost, key_search_cost, switched, grown, insertion_reads}
 use Rattle.halfbrown.specs.Costs.{insert_cost, raw_insert_cost, new_key_cost, is_switch_refused, capacity_after_switch, capacity_after_growth}
 use Rattle.halfbrown.specs.Costs.{addition_grows, IsSearchCost, IsInsertCost}
 use Rattle.half_laws.specs.MapLaws.{HoldSamePairs, GrewExactlyBy, HistoryLaw, InsertionHistoryLaw, CrowdedSearchLaw, CrowdedInsertionLaw}
@@ -52,11 +52,11 @@ exact_unless_refused : (refused : Bool) (range : Range) → IsExact range → Is
 exact_unless_refused true range exact = refl
 exact_unless_refused false range exact = exact
 
--- the work of a cost, where that is exact
+-- the work of a cost, if that is exact
 abbrev least_work : Cost → Work
 least_work cost = record { asked = cost.asked; compared = cost.compared.least; looked = cost.looked.least }
 
-grew_exactly : (cost : Cost) (before after : Work) → IsExact cost.compared → IsExact cost.looked → GrewBy cost before after
+grew_exactly : (cost : Cost) (before after : Work) → IsExact cost.compared → IsExact cost.looked → TallyGrewBy cost before after
     → GrewExactlyBy (least_work cost) before after
 grew_exactly cost before after compared looked grew = record {
   asked = grew.asked;
@@ -66,14 +66,14 @@ grew_exactly cost before after compared looked grew = record {
 
 -- an insertion that makes no capacity grow reads no more than its search
 insertion_most : (refused grows : Bool) (searched : Range) (probe before after : ℕ) → grows ≡ false
-    → GrewWithin (if refused then exactly 0 else add_ranges searched (exactly (if grows then probe else 0))) before after
+    → NumberGrewWithin (if refused then exactly 0 else add_ranges searched (exactly (if grows then probe else 0))) before after
     → after ≤ before + searched.greatest
 insertion_most refused grows searched probe before after none grew = grind (arith, common_steps, grew)
 
--- one that makes the capacity grow for its key has searched in vain, and reads one more probe
+-- one that makes the capacity grow for its key has found nothing, and reads one more probe
 growing_reads : (refused granted held grows : Bool) (probe second before after : ℕ) → (granted && not held && grows) ≡ true
     → (refused && granted) ≡ false
-    → GrewWithin (if refused then exactly 0 else add_ranges (if held then between 1 (probe - 1) else exactly probe)
+    → NumberGrewWithin (if refused then exactly 0 else add_ranges (if held then between 1 (probe - 1) else exactly probe)
     (exactly (if granted && not held && grows then second else 0))) before after
     → after ≡ before + (probe + second)
 growing_reads refused granted held grows probe second before after some none grew = grind (arith, common_steps, grew)
@@ -83,11 +83,11 @@ granted_or_refused : (full granted : Bool) → (full && not granted && granted) 
 granted_or_refused full granted = grind (arith, common_steps)
 
 -- an insertion without a search reads one probe at most
-unchecked_most : (granted : Bool) (probe before after : ℕ) → GrewWithin (exactly (if granted then probe else 0)) before after
+unchecked_most : (granted : Bool) (probe before after : ℕ) → NumberGrewWithin (exactly (if granted then probe else 0)) before after
     → after ≤ before + probe
 unchecked_most granted probe before after grew = grind (arith, common_steps, grew)
 
--- what holds of two numbers holds of the one that is chosen
+-- a fact of two numbers holds of the one that is chosen
 of_both : (P : ℕ → Type 0) (b : Bool) (x y : ℕ) → P x → P y → P (if b then x else y)
 of_both P true x y of_x of_y = of_x
 of_both P false x y of_x of_y = of_y
@@ -123,22 +123,22 @@ module _ {K V S : Type 0} (hash : S → K → ℕ) where
         let more = grown_fits m s stays in
         let h : K → ℕ = hash m.builder in
         let found : Option ℕ = index_of (eq k) (keys_of m.pairs) in
-        let first : ℕ = probe_length h false (capacity_after_switch limit m) m.pairs (h k) in
-        let second : ℕ = probe_length h false (capacity_after_growth limit m) m.pairs (h k) in
+        let first : ℕ = miss_reads h false (capacity_after_switch limit m) m.pairs (h k) in
+        let second : ℕ = miss_reads h false (capacity_after_growth limit m) m.pairs (h k) in
         record {
           first = first;
           second = second;
           read = growing_reads (is_switch_refused limit m granted) granted (holds eq m.pairs k) (addition_grows limit m) first second
               before.looked after.looked grows
               (granted_or_refused (is_full limit m) granted)
-              (subst (λ b. GrewWithin (if is_switch_refused limit m granted then exactly 0 else add_ranges
+              (subst (λ b. NumberGrewWithin (if is_switch_refused limit m granted then exactly 0 else add_ranges
               (if b then between 1 (first - 1) else exactly first)
               (exactly (if granted && not (holds eq m.pairs k) && addition_grows limit m then second else 0))) before.looked after.looked)
               (found_where_held (eq k) m.pairs)
-              (subst (λ b. GrewWithin (if is_switch_refused limit m granted then exactly 0 else add_ranges
+              (subst (λ b. NumberGrewWithin (if is_switch_refused limit m granted then exactly 0 else add_ranges
               (search_reads h (h k) found b (capacity_after_switch limit m) m.pairs)
               (exactly (if granted && not (holds eq m.pairs k)
-              && addition_grows limit m then probe_length h b (capacity_after_growth limit m) m.pairs (h k) else 0)))
+              && addition_grows limit m then miss_reads h b (capacity_after_growth limit m) m.pairs (h k) else 0)))
               before.looked after.looked) stays costs.grew.looked));
           first_crowded = λ passed l. crowded_probe_law m.builder (capacity_after_switch limit m) m.pairs (hash m.builder k) passed is.0 is.1 l;
           second_crowded = λ passed l. crowded_probe_law m.builder (capacity_after_growth limit m) m.pairs (hash m.builder k) passed more.0 more.1
@@ -154,7 +154,7 @@ module _ {K V S : Type 0} (hash : S → K → ℕ) where
   keys-permutation : (xs ys : List (K × V)) → IsPermutation xs ys → IsPermutation (keys_of xs) (keys_of ys)
   keys-permutation xs ys p = IsPermutation-map (λ (e : K × V). e.0) xs ys p
 
-  -- where no key passes the test, a search in a vector compares each key
+  -- if no key passes the test, a search in a vector compares each key
   comparisons-unheld : (test : K → Bool) (pairs : List (K × V)) → holds_by test pairs ≡ false
       → first_match_cost (index_of test (keys_of pairs)) (length pairs) ≡ length pairs
   comparisons-unheld test pairs unheld = let absent = absent_of_unheld test pairs unheld in
@@ -313,7 +313,7 @@ module _ {K V S : Type 0} (hash : S → K → ℕ) where
               → (raw_insert_cost limit eq hash first k granted).compared ≡ (raw_insert_cost limit eq hash second k granted).compared
           raw-compared none = λ i. if not granted then exactly 0 else searched-alike none i
 
-          -- an insertion without a search, where the key is not held
+          -- an insertion without a search, if the key is not held
           added-same : (if holds eq xs k then no_cost else new_key_cost limit eq hash first k granted)
               ≡ (if holds eq ys k then no_cost else new_key_cost limit eq hash second k granted)
           added-same = simp (long, held k, looked k)

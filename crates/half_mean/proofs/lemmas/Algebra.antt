@@ -67,7 +67,7 @@ total-zero d m p is square = grind (arith, square, ap (λ s. s * m) is, ap (λ s
 total-suc : (d t y k q m : ℕ) → m ≡ d + t → suc d * y + k ≡ q → d * (q + t * y) + t * (y + k) ≡ m * q
 total-suc d t y k q m is total = grind (arith, ap (λ s. s * q) is, ap (λ s. d * s) total, ap (λ s. t * s) total)
 
--- both sums together, where `d + 1` buckets are empty
+-- both sums together, if `d + 1` buckets are empty
 total : (d n m : ℕ) → m ≡ d + suc n → d * (m ^ suc (suc n) + suc n * plain m n) + suc n * knuth m n ≡ m ^ suc (suc (suc n))
 total d zero m is =
     let one : plain m 0 ≡ m = knuth-zero (λ k. 1) m 0 ∙ omega arith in
@@ -84,7 +84,7 @@ total d (suc n) m is =
 recursion-step : (d s y k q : ℕ) → suc d * y + s * k ≡ q → suc d * (y + s * k) ≡ q + s * d * k
 recursion-step d s y k q total = grind (arith, total)
 
--- Knuth's recursion, where `d + 1` buckets are empty after an insertion
+-- Knuth's recursion, if `d + 1` buckets are empty after an insertion
 pub recursion : (d n m : ℕ) → m ≡ suc d + suc n → suc d * knuth m (suc n) ≡ m ^ suc (suc (suc n)) + suc n * d * knuth m n
 recursion d n m is =
     let y : ℕ = m ^ suc (suc n) + suc n * plain m n in
@@ -99,7 +99,7 @@ bound-step d s k k' q m is step small =
     let all : m * q ≡ (suc d + s) * q = ap (λ r. r * q) is in
     grind arith
 
--- where `empty + 1` buckets are empty, Knuth's sum is at most `m ^ (n + 3)` by their square
+-- if `empty + 1` buckets are empty, Knuth's sum is at most `m ^ (n + 3)` by their square
 pub bound : (empty n m : ℕ) → m ≡ suc empty + n → knuth m n * (suc empty * suc empty) ≤ m ^ suc (suc (suc n))
 bound empty zero m is =
     let all : m ≡ suc empty = omega arith in

@@ -11,7 +11,7 @@ use Rattle.half_mean.specs.Mean.{sum_below}
 use Rattle.half_mean.proofs.lemmas.Sums.{below-same, below-plus, below-const, below-swap}
 use Rattle.half_mean.proofs.lemmas.Stops.{stop, ends_with, next-other, stop-joins, stop-stays, next-apart}
 
--- 1 where probes for both hashes end at one bucket
+-- 1 if probes for both hashes end at one bucket
 abbrev pub same : ℕ → List ℕ → ℕ → ℕ → ℕ
 same m w a b = tick (stop m w a == stop m w b)
 
@@ -53,7 +53,7 @@ module _ (m : ℕ) (v : List ℕ) (x : ℕ) where
   pub block-joined : length v + 1 < m → block m (x ∷ v) x ≡ block m v x + block m v (behind m v x)
   block-joined few = ap (sum_below m) (λ i b. same-joined b few i) ∙ below-plus m (λ b. same m v b x) (λ b. same m v b (behind m v x))
 
-  -- where three buckets are empty, the block of a hash is behind another after its insertion exactly where it was before
+  -- if three buckets are empty, the block of a hash is behind another after its insertion exactly if it was before
   pub same-behind : (h : ℕ) → length v + 2 < m → same m (x ∷ v) x (behind m (x ∷ v) h) ≡ same m v x (behind m v h)
   same-behind h few = grind (arith, common_steps, tick_same, tick_apart, next-other, stop-joins, stop-stays, next-apart)
 
@@ -62,7 +62,7 @@ module _ (m : ℕ) (w : List ℕ) (few : length w < m) where
   abbrev far : ℕ → ℕ
   far b = probe_distance m b (stop m w b)
 
-  -- 1 where one bucket lies on the way from another
+  -- 1 if one bucket lies on the way from another
   abbrev on_way : ℕ → ℕ → ℕ
   on_way h b = tick (ltb (probe_distance m b (stop m w h)) (far h))
 

@@ -43,7 +43,7 @@ module _ (m q : ℕ) where
   unfolding inner
   inner-blind f blind some others = ap (sum_below m) (λ i x. blind (x ∷ some) others i)
 
-  -- what bounds the sums over lists of numbers below m bounds those below m + 1, where m may be left out
+  -- a bound of the sums over lists of numbers below m bounds those below m + 1 too, if m may be left out
   thin : (n p a s : ℕ) (f : List ℕ → ℕ) → Blind m f → ((l : ℕ) → l ≤ n → p * (q ^ l * sum_lists m l f) ≤ a * s ^ l)
       → p * (q ^ n * sum_lists (suc m) n f) ≤ a * (s + q) ^ n
   thin zero p a s f blind bound = rw (pow-zero (s + q)) (rw (pow-zero s) at (bound 0 (omega arith)))

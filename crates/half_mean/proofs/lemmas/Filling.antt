@@ -21,7 +21,7 @@ filling-terms : (e n m : ℕ) → m ≡ suc e + n
     → e * (suc e * suc e + m * m) + e * suc e * ((m + suc e) * n) + m * m ≡ (m + e) * (suc n * (suc e * suc e))
 filling-terms e n m is = rw is (grind arith)
 
--- the means before an insertion and of it, over a common divisor, where `e + 1` buckets are empty before it
+-- the means before an insertion and of it, over a common divisor, if `e + 1` buckets are empty before it
 filling-sum : (e n m r f c : ℕ) → m ≡ suc e + n → r * (2 * (suc e * suc e)) ≤ (suc e * suc e + m * m) * c
     → f * (2 * suc e) ≤ (m + suc e) * (n * c)
     → (r + f) * (2 * e) * (suc e * suc e) ≤ (m + e) * (suc n * c) * (suc e * suc e)
@@ -38,7 +38,7 @@ pub filling-none : (m : ℕ) → total_filling m m 0 ≡ 0
 unfolding total_filling
 filling-none m = refl
 
--- where hashes are homes
+-- if hashes are homes
 filling_of_homes : (n m : ℕ) → n < m → MeanFillingIsAtMost m m n (m + (m - n)) (2 * (m - n))
 filling_of_homes zero m few = let none : total_filling m m 0 ≡ 0 = filling-none m in rw none (omega arith)
 filling_of_homes (suc n) m few =
@@ -62,7 +62,7 @@ load-sum t m d f c load mean =
     let most : (m + d) * c ≤ (t * d + d) * c = mul-le-mul_right c (omega arith) in
     grind arith
 
--- where at least one bucket in `t` is empty
+-- if at least one bucket in `t` is empty
 filling_at_load : (t : ℕ) → AtLoad t (λ hashes m n. MeanFillingIsAtMost hashes m n (1 + t) 2)
 filling_at_load t share m n few load =
     le_of_mul-le-mul_right

@@ -1,4 +1,4 @@
--- Where each bucket is the home of equally many hashes, sums over hashes are sums over homes.
+-- If each bucket is the home of equally many hashes, sums over hashes are sums over homes.
 use Rattle.std.proofs.Common.{◌≡◌, ℕ, zero, suc, ◌+◌, ◌*◌, ◌^◌, ◌<◌, ◌%◌, nat_lt, refl, sym, ap, ◌∙◌, arith, add-one, List, [], ◌∷◌, map}
 use Rattle.std.proofs.Math.Nat.{pow-succ', pow-suc, pow-zero, mul_assoc, mod-mod, zero-add, suc-add, zero-mul, add_comm}
 use Rattle.std.proofs.lemmas.List.Sums.{sum_by-cons}
@@ -59,7 +59,7 @@ module _ (share m : ℕ) where
       ∙ ap (λ s. share ^ n * s) (below-homes share m after (λ x. ap (sum_lists m n) (λ i w. same x w i)))
       ∙ sym (mul_assoc (share ^ n) share (sum_below m after)) ∙ ap (λ p. p * sum_below m after) (sym (pow-suc share n))
 
-  -- the sum over all lists and searched hashes, of what depends on homes alone
+  -- the sum over all lists and searched hashes, of what depends on homes only
   pub probes-homes : (n : ℕ) (f : List ℕ → ℕ → ℕ) → ((w : List ℕ) (h : ℕ) → f (homes m w) h ≡ f w h) → ((w : List ℕ) (h : ℕ) → f w (home m h) ≡ f w h)
       → sum_lists (share * m) n (λ w. sum_below (share * m) (λ h. f w h)) ≡ share ^ (n + 1) * sum_lists m n (λ w. sum_below m (λ h. f w h))
   probes-homes n f lists searched =

@@ -40,7 +40,7 @@ sums-are m (suc n) fits =
           ∙ (λ i. (read ∙ ap (λ k. m ^ suc n + k) before.1) i + m * before.2 i),
     )
 
--- a mean is above `over / under` where a smaller one is
+-- a mean is above `over / under` if a smaller one is
 above : (less over total cases under : ℕ) → less * cases < total * under → total * under ≤ over * cases → suc less ≤ over
 above less over total cases under more mean =
     elim (cases_lt less over) [ inl l ↦ l | inr ge ↦ let few : over * cases ≤ less * cases = mul-le-mul_right cases ge in absurd (omega arith) ]
@@ -48,7 +48,7 @@ above less over total cases under more mean =
 read_by : (m n : ℕ) → n < m → total_reach m m n * 2 ≡ m ^ (n + 1) + (sums m n).weighted
 read_by m n few = exact_mean_law m n few ∙ ap (λ k. m ^ (n + 1) + k) (sums-are m n (omega arith)).1
 
--- in 16 buckets, of which 8 are full
+-- in 16 buckets, 8 of them full
 pub half_full_least : IsLeastOver HalfFullMeanLaw 5 2
 half_full_least over law =
     above 4 over (total_reach 16 16 8) (reach_cases 16 8) 2 (rw (read_by 16 8 (omega arith)) (ltb-true _ _ refl))
@@ -65,7 +65,7 @@ filling_least over law =
     above 4 over (total_filling 64 64 48) (filling_cases 64 48) 2 (rw ((sums-are 64 48 (omega arith)).2) (ltb-true _ _ refl))
     (law 6 64 48 (omega arith) (inr (6, omega arith, refl)) (omega arith) (omega arith))
 
--- in 4 buckets, of which 2 are full
+-- in 4 buckets, 2 of them full
 pub half_filling_least : IsLeastOver HalfFullFillingLaw 3 2
 half_filling_least over law =
     above 2 over (total_filling 4 4 2) (filling_cases 4 2) 2 (rw ((sums-are 4 2 (omega arith)).2) (ltb-true _ _ refl))

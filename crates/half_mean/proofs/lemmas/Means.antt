@@ -49,7 +49,7 @@ cases_law hashes held = (
 mean-sum : (t mm k dd sq : ℕ) → t * 2 ≡ mm + k → k * dd ≤ mm * sq → t * (2 * dd) ≤ (dd + sq) * mm
 mean-sum t mm k dd sq is small = let all : t * 2 * dd ≡ (mm + k) * dd = ap (λ s. s * dd) is in grind arith
 
--- the bound where hashes are homes
+-- the bound if hashes are homes
 pub mean_of_homes : (m n : ℕ) → n < m → MeanReachIsAtMost m m n ((m - n) ^ 2 + m ^ 2) (2 * (m - n) ^ 2)
 mean_of_homes m n few =
     let empty : ℕ = m - suc n in
@@ -81,7 +81,7 @@ square-le t d m small =
 times-load : (t c dd sq tt : ℕ) → t * (2 * dd) ≤ (dd + sq) * c → sq ≤ tt * dd → t * 2 * dd ≤ (1 + tt) * c * dd
 times-load t c dd sq tt mean small = let more : sq * c ≤ tt * dd * c = mul-le-mul_right c small in grind arith
 
--- where at least one bucket in `t` is empty
+-- if at least one bucket in `t` is empty
 mean_at_load : (t : ℕ) → AtLoad t (λ hashes m n. MeanReachIsAtMost hashes m n (1 + t * t) 2)
 mean_at_load t share m n few load =
     let some : 0 < (m - n) * (m - n) = mul-pos (omega arith) (omega arith) in
@@ -103,7 +103,7 @@ quarter m n some (inr (k, two, is)) within =
     let four : 2 ^ k ≡ 2 ^ (k - 2) * 4 = ap (λ e. 2 ^ e) (omega arith) ∙ pow-add 2 (k - 2) 2 in
     let part = pow_pos (k - 2) in (omega arith, omega arith)
 
--- what holds where at least half of the buckets are empty, or a quarter
+-- what holds if at least half of the buckets are empty, or a quarter
 module _ (Law : ℕ → ℕ → ℕ → Type 0) where
   pub up_to_half : AtLoad 2 Law → UpToHalf Law
   up_to_half law share m n some half = law share m n (omega arith) (omega arith)

@@ -16,7 +16,7 @@ flat : (n a b r : ℕ) → a ≡ n * b + r → r * (a + b) ^ n ≤ a * a ^ n
 flat zero a b r is = rw (pow-zero a, pow-zero (a + b)) (omega arith)
 flat (suc n) a b r is = rw (pow-succ' a n, pow-succ' (a + b) n) (flat-step n a b r ((a + b) ^ n) (a ^ n) is (flat n a b (b + r) (grind arith)))
 
--- where `d` of the buckets are weighed `q + 1`, and the others `q`
+-- if `d` of the buckets are weighed `q + 1`, and the others `q`
 module _ (q d : ℕ) where
   around : (n : ℕ) → n * (q * suc n + d) + d ≡ suc n * (q * n + d)
   around n = grind arith
@@ -81,7 +81,7 @@ quotient (suc n) r m is =
     rw (pow-succ' m n, pow-succ' (suc m) n)
     (le_of_mul-le-mul_left (quotient-step n r m (suc m ^ n) (m ^ n) is (quotient n (suc r) m (omega arith))) (omega arith))
 
--- a stretch of `d` buckets, where one bucket in `q + 1` is empty
+-- a stretch of `d` buckets, if one bucket in `q + 1` is empty
 module _ (q : ℕ) where
   abbrev odd : ℕ
   odd = q + suc q

@@ -111,7 +111,7 @@ module _ (m n : ℕ) where
         pow-suc m n,
       )
 
--- where nothing is held, each block is one bucket
+-- if nothing is held, each block is one bucket
 pub blocks-none : (m : ℕ) → 0 < m → (blocks m 0 ≡ m) × (blocks_behind m 0 ≡ m)
 blocks-none m some = (
   below-same m (λ h. block m [] h) (λ h. 1) (λ h l. block-entries m [] h some) ∙ below-const m 1 ∙ omega arith,

@@ -137,7 +137,7 @@ module _ (m : ℕ) (w : List ℕ) (x : ℕ) (few : length w + 1 < m) where
   pub stop-stays : (h : ℕ) → stop m w h ≢ e → stop m (x ∷ w) h ≡ stop m w h
   stop-stays h other = grind (arith, common_steps, distance_same, home-lt, new, old, vacant_before, vacant_other)
 
--- the blocks behind two blocks are one only where those are
+-- the blocks behind two blocks are one only if those are
 pub next-apart : (m : ℕ) (w : List ℕ) (h g : ℕ) → length w < m → stop m w (suc (stop m w h)) ≡ stop m w (suc (stop m w g))
     → stop m w h ≡ stop m w g
 next-apart m w h g few same =

@@ -41,7 +41,7 @@ reach-longest w m h =
       | inr none ↦ omega (arith, reach-none w m h (omega arith))
     ]
 
--- where the longest probe is long, some probe is
+-- if the longest probe is long, some probe is
 longest-le : (d m k : ℕ) (w : List ℕ) → reads_more_than d (longest_reach w m k) ≤ sum_below k (λ h. reads_more_than d (reach w m h))
 longest-le d m zero w = grind (arith, nat_tests)
 longest-le d m (suc k) w = grind (arith, nat_tests, longest-le d m k w)
@@ -53,7 +53,7 @@ tables-le m n d = lists-le m n _ _ (λ w l. longest-le d m m w)
 at_most-load : (q n e m : ℕ) → m ≡ n + e → m ≤ suc q * e → suc q * n ≤ q * m
 at_most-load q n e m is empty = let all : suc q * m ≡ suc q * (n + e) = ap (λ s. suc q * s) is in grind arith
 
--- where hashes are homes
+-- if hashes are homes
 probes-tail : (q m n d : ℕ) → 1 ≤ q → n < m → m ≤ suc q * (m - n) → TailIsAtMost (suc q) d (long_probes m m n d) (m * m ^ n)
 unfolding long_probes
 probes-tail q m n d some few empty =
@@ -94,7 +94,7 @@ halved-sum x y t long all less tail =
     let most : t * y * all ≤ x * all = mul-le-mul_right all less in
     grind arith
 
--- where at least one bucket in k is empty, and the tail of k halves with each step
+-- if at least one bucket in k is empty, and the tail of k halves with each step
 module _ (k step : ℕ) (two : 2 ≤ k) (some : 0 < decay k) (less : 2 * (decay k - 1) ^ step ≤ decay k ^ step) where
   halved : (s long all : ℕ) → TailIsAtMost k (step * s) long all → long * 2 ^ s ≤ all
   halved s long all tail =

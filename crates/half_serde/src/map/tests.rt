@@ -86,7 +86,7 @@ fn a_large_map_is_read_into_a_table(rt: HostRuntime) -> Result<(), Fail> {
 
 type Small = Map<u64, u64, DefaultHashBuilder, AtMost<2>>;
 
-// Prints that the five pairs were read, or where memory was refused, which may happen.
+// Prints that the five pairs were read, or that memory was refused, which may happen.
 fn tell(rt: &(impl Print + Abort), read: Result<Small, Error>) -> Result<(), Fail> {
     match read {
         Ok(map) => {
@@ -101,7 +101,7 @@ fn tell(rt: &(impl Print + Abort), read: Result<Small, Error>) -> Result<(), Fai
     Ok(())
 }
 
-// `tests/refused_reads.py` refuses each of its requests for memory alone.
+// `tests/refused_reads.py` refuses each of its requests for memory by itself.
 #[test]
 fn a_refused_read_is_an_error_of_memory(rt: HostRuntime) -> Result<(), Fail> {
     let alloc = rt.alloc();

@@ -4,7 +4,7 @@ use Rattle.half_store.proofs.Common.{IsBucketCount, buckets_of}
 use Rattle.std.proofs.Math.Nat.{pow-le-pow_right}
 use Rattle.std.proofs.lemmas.Nat.{pow_pos, pow-add}
 use Rattle.std.proofs.lemmas.Grind.{pow_more}
-use Rattle.half_store.specs.Capacity.{more_buckets, buckets_for_more, least_buckets, IsLeastFor}
+use Rattle.half_store.specs.Capacity.{next_bucket_count, bucket_count_for_one_more, least_buckets, IsLeastFor}
 use Rattle.half_store.specs.Capacity.{least_table_capacity}
 
 -- a bucket count that is not 0 is at least 4
@@ -20,50 +20,50 @@ pow-double i j h =
       | inr ge ↦ let p : 2 ^ j ≤ 2 ^ i = pow-le-pow_right {n = 2} (omega arith) ge in absurd (omega arith)
     ]
 
-pub more_buckets-some : (m : ℕ) → 0 < m → more_buckets m ≡ 2 * m
-more_buckets-some m h = grind (arith, nat_tests)
+pub next_bucket_count-some : (m : ℕ) → 0 < m → next_bucket_count m ≡ 2 * m
+next_bucket_count-some m h = grind (arith, nat_tests)
 
 -- the next bucket count is one
-pub more_buckets-count : (m : ℕ) → IsBucketCount m → IsBucketCount (more_buckets m)
-more_buckets-count m (inl e) = inr (2, omega arith, ap more_buckets e)
-more_buckets-count m (inr (k, two, e)) =
+pub next_bucket_count-count : (m : ℕ) → IsBucketCount m → IsBucketCount (next_bucket_count m)
+next_bucket_count-count m (inl e) = inr (2, omega arith, ap next_bucket_count e)
+next_bucket_count-count m (inr (k, two, e)) =
     let p = pow_pos k in
-    inr (k + 1, omega arith, more_buckets-some m (omega arith) ∙ omega (arith, pow_more 2 k))
+    inr (k + 1, omega arith, next_bucket_count-some m (omega arith) ∙ omega (arith, pow_more 2 k))
 
 -- no bucket count lies between one and the next
-pub more_buckets-least : (m other : ℕ) → IsBucketCount m → IsBucketCount other → m < other → more_buckets m ≤ other
-more_buckets-least m other (inl e) c h = rw e (four-le_count other c (omega arith))
-more_buckets-least m other (inr (k, two, e)) (inl z) h = absurd (omega arith)
-more_buckets-least m other (inr (k, two, e)) (inr (j, two_j, f)) h =
+pub next_bucket_count-least : (m other : ℕ) → IsBucketCount m → IsBucketCount other → m < other → next_bucket_count m ≤ other
+next_bucket_count-least m other (inl e) c h = rw e (four-le_count other c (omega arith))
+next_bucket_count-least m other (inr (k, two, e)) (inl z) h = absurd (omega arith)
+next_bucket_count-least m other (inr (k, two, e)) (inr (j, two_j, f)) h =
     let p = pow_pos k in
-    let s = more_buckets-some m (omega arith) in
+    let s = next_bucket_count-some m (omega arith) in
     let d = pow-double k j (omega arith) in
     omega arith
 
--- where the capacity is just filled, the next bucket count has capacity for one more
-pub capacity_of-more : (m : ℕ) → IsBucketCount m → capacity_of m < capacity_of (more_buckets m)
+-- if the capacity is just filled, the next bucket count has capacity for one more
+pub capacity_of-more : (m : ℕ) → IsBucketCount m → capacity_of m < capacity_of (next_bucket_count m)
 capacity_of-more m (inl e) = rw e (omega arith)
 capacity_of-more m (inr (k, two, e)) =
     let f = four-le_count m (inr (k, two, e)) (let p = pow_pos k in omega arith) in
-    rw (more_buckets-some m (omega arith)) (omega arith)
+    rw (next_bucket_count-some m (omega arith)) (omega arith)
 
 -- more capacity, more buckets
 pub capacity_of-below : (a b : ℕ) → capacity_of a < capacity_of b → a < b
 capacity_of-below a b h = omega arith
 
-pub IsLeastFor-more : (n m : ℕ) → IsLeastFor n m → IsLeastFor (suc n) (buckets_for_more n m)
+pub IsLeastFor-more : (n m : ℕ) → IsLeastFor n m → IsLeastFor (suc n) (bucket_count_for_one_more n m)
 IsLeastFor-more n m l =
     elim (cases_lt n (capacity_of m)) [
       | inl lt ↦
-          let e : buckets_for_more n m ≡ m = grind (arith, nat_tests) in
+          let e : bucket_count_for_one_more n m ≡ m = grind (arith, nat_tests) in
           rw e record { count = l.count; serves = omega arith; least = λ o c s. l.least o c (omega arith) }
       | inr ge ↦
-          let e : buckets_for_more n m ≡ more_buckets m = grind (arith, nat_tests) in
+          let e : bucket_count_for_one_more n m ≡ next_bucket_count m = grind (arith, nat_tests) in
           let full : capacity_of m ≡ n = let s = l.serves in omega arith in
           rw e record {
-            count = more_buckets-count m l.count;
+            count = next_bucket_count-count m l.count;
             serves = let r = capacity_of-more m l.count in omega arith;
-            least = λ o c s. more_buckets-least m o l.count c (capacity_of-below m o (omega arith));
+            least = λ o c s. next_bucket_count-least m o l.count c (capacity_of-below m o (omega arith));
           }
     ]
 
@@ -73,7 +73,7 @@ unfolding least_buckets
 buckets_for-least zero = record { count = inl refl; serves = omega arith; least = λ o c s. omega arith }
 buckets_for-least (suc n) = IsLeastFor-more n (least_buckets n) (buckets_for-least n)
 
--- there is one alone
+-- there is only one
 pub IsLeastFor-unique : (n a b : ℕ) → IsLeastFor n a → IsLeastFor n b → a ≡ b
 IsLeastFor-unique n a b x y =
     let p = x.least b y.count y.serves in
@@ -99,15 +99,15 @@ buckets_of-capacity_of m c =
     let e : m ≡ 4 * q = (quarter m c).1 in
     rw e (omega arith)
 
--- where the buckets are just filled, one pair more needs the next bucket count
-pub buckets_for-grown : (m : ℕ) → IsBucketCount m → least_buckets (suc (capacity_of m)) ≡ more_buckets m
+-- if the buckets are just filled, one pair more needs the next bucket count
+pub buckets_for-grown : (m : ℕ) → IsBucketCount m → least_buckets (suc (capacity_of m)) ≡ next_bucket_count m
 buckets_for-grown m c =
     let r = capacity_of-more m c in
-    sym (buckets_for-is (suc (capacity_of m)) (more_buckets m)
+    sym (buckets_for-is (suc (capacity_of m)) (next_bucket_count m)
     record {
-      count = more_buckets-count m c;
+      count = next_bucket_count-count m c;
       serves = omega arith;
-      least = λ o is s. more_buckets-least m o c is (capacity_of-below m o (omega arith));
+      least = λ o is s. next_bucket_count-least m o c is (capacity_of-below m o (omega arith));
     })
 
 -- the capacity of a bucket count is one of the series
@@ -117,7 +117,7 @@ capacity_for-capacity_of m count =
       count = count;
       serves = omega arith;
       least = λ other is serves. elim (cases_lt other m) [
-        | inl below ↦ let next = more_buckets-least other m is count below in let more = capacity_of-more other is in absurd (omega arith)
+        | inl below ↦ let next = next_bucket_count-least other m is count below in let more = capacity_of-more other is in absurd (omega arith)
         | inr ge ↦ ge
       ];
     })

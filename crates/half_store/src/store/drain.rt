@@ -33,7 +33,7 @@ impl<K, V> Model for Drained<K, V> {
     ghost invariant = { λ d. AreEvenQueues d.keys d.values d.table };
 }
 
-/// What becomes a store again: `Drained` alone. A workaround: the prover cannot see through the drop of a struct that owns
+/// What becomes a store again: only `Drained`. A workaround: the prover cannot see through the drop of a struct that owns
 /// memory and also borrows; behind a type parameter it can.
 pub trait IntoStore<K, V> {
     ghost use Rattle.half_store.specs.Store.{StoreState};

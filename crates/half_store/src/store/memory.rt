@@ -1,16 +1,19 @@
 //! The memory of a store: capacity made and given back, and a table for a vector. All memory is had before anything
 //! changes or is filled, so a refused call costs no more in a large store.
 ghost use Rattle.std.specs.Prelude.{◌≡◌, ◌^◌, ◌<◌, ◌≤◌, ℕ, [], IfOk, IfErr, OnOk, true, length};
-ghost use Rattle.half_store.specs.Arrays.{arrays_of, bytes_of, bytes};
+ghost use Rattle.half_store.specs.Arrays.{arrays_of, bytes_in, bytes};
 ghost use Rattle.half_store.specs.Store.{IsStoreClone, MakesStore, StoreReserves, StoreShrinks, MakesTable, TableFitsColumns, table_of, vector_of};
 ghost use Rattle.half_store.specs.Capacity.{capacity_of, least_buckets, least_table_capacity};
 ghost use Rattle.half_store.specs.Refusal.{refusal_of};
 
 use super::Store;
-use crate::capacity::{capacity_of, generous_capacity, least_buckets};
+use crate::capacity::{capacity_of, least_buckets};
 use crate::refusal::check_size;
 use crate::{Columns, Refusal, Table, TableMemory};
 use std::alloc::{AllocError, Global};
+
+/// The least capacity to which a vector grows, unless the limit is less.
+const LEAST_GROWN: usize = 8;
 
 /// For how many elements each array of a store has memory. A vector has none for hashes and words, and no block of a table.
 #[derive(Clone, Copy)]
@@ -25,13 +28,13 @@ pub struct Arrays {
     pub words: usize,
     /// The bytes of each of them.
     pub word_size: usize,
-    /// The bytes of the block that a table itself stands in, beside its arrays.
+    /// The bytes of the block that a table itself stands in, besides its arrays.
     pub table: usize,
 }
 
 impl<K, V> Store<K, V> {
-    /// No pairs, with capacity for this many: a vector with exactly this capacity where the limit allows them, else a table. Fails
-    /// with `Size` for more than 2^60 pairs, and with `Memory` where memory is refused.
+    /// No pairs, with capacity for this many: a vector with exactly this capacity if the limit allows them, otherwise a table. Fails
+    /// with `Size` for more than 2^60 pairs, and with `Memory` if memory is refused.
     pub fn with_capacity(
         alloc: Global,
         capacity: usize,
@@ -58,28 +61,26 @@ impl<K, V> Store<K, V> {
     /// For how many elements each array has memory. No map calls this: its clauses tie `bytes` to what the arrays take.
     pub fn arrays(&self) -> Arrays
         ensures each { result ≡ arrays_of self.now.is_vec self.now.capacity }
-        ensures bytes { (key value : ℕ) → bytes_of key value result
+        ensures bytes { (key value : ℕ) → bytes_in key value result
             ≡ bytes key value self.now.is_vec self.now.capacity }
     {
-        let (keys, values) = self.columns.capacities();
         let (hashes, words, word_size) = match &self.table {
             Some(table) => table.memory(),
             None => (0, 0, size_of::<u32>()),
         };
-        let table = if self.is_vec() { 0 } else { size_of::<Table>() };
         Arrays {
-            keys,
-            values,
+            keys: self.columns.keys.capacity(),
+            values: self.columns.values.capacity(),
             hashes,
             words,
             word_size,
-            table,
+            table: if self.is_vec() { 0 } else { size_of::<Table>() },
         }
     }
 
     /// Makes the capacity enough for this many pairs more, in a vector for no more in all than the limit.
     ///
-    /// Where it is not enough yet, a table gets the least of its series that is, and a vector grows as `generous_capacity` says. On error
+    /// If it is not enough yet, a table gets the least of its series that is, and a vector grows as `grown_capacity` says. On error
     /// nothing changes.
     #[inline(never)]
     pub fn reserve(&mut self, additional: usize, limit: usize) -> Result<(), Refusal>
@@ -176,7 +177,9 @@ fn reserve_in_vector<K, V>(
     let capacity = columns.capacity();
     if capacity < needed {
         check_size(needed)?;
-        columns.grow_to(generous_capacity(limit, capacity, needed))?;
+        // At least twice what it was, so that many insertions cost few growths.
+        let generous = capacity.saturating_mul(2).max(LEAST_GROWN).max(needed);
+        columns.grow_to(generous.min(limit))?;
     }
     Ok(())
 }

@@ -9,7 +9,7 @@ use crate::table::memory::rehash;
 use crate::{Columns, Table};
 
 /// Calls `f` at each pair of these columns, and keeps those that it accepts, as `Columns::retain` does. The table over them has as
-/// many buckets as before, and no memory is taken. Where a pair is gone, all buckets are emptied, and each pair that is kept is
+/// many buckets as before, and no memory is taken. If a pair is gone, all buckets are emptied, and each pair that is kept is
 /// probed for anew.
 pub(super) fn retain_in_table<K: Drop, V: Drop, F: FnMut(&K, &mut V) -> bool>(
     columns: &mut Columns<K, V>,

@@ -5,18 +5,18 @@ ghost use Rattle.std.specs.Prelude.{◌≡◌, ◌+◌, ◌^◌, ◌<◌, ◌≤
 ghost use Rattle.std.specs.Prelude.{length, slice_get, slice_set, slice_index, vec_capacity};
 ghost use Rattle.std.specs.List.{swap_remove};
 ghost use Rattle.half_store.specs.Capacity.{IsBucketCount};
-ghost use Rattle.half_store.specs.Work.{probe_reads, looked_more, ReadsWithin, removal_reads_left};
+ghost use Rattle.half_store.specs.Work.{reads_up_to, looked_more, ReadsWithin, removal_reads_left};
 ghost use Rattle.half_store.specs.Reach.{home, probe_distance, reach};
-ghost use Rattle.half_store.specs.StoreRemoval.{Renames, ShiftsUpTo};
+ghost use Rattle.half_store.specs.StoreRemoval.{RenamesLast, ShiftsUpTo};
 ghost use Rattle.half_store.specs.Table.{IsIndexed, IsIndexedWithGap};
 
 use super::probe::{home, next};
 use crate::Tally;
-use crate::words::Words;
+use crate::words::{Words, WordsMut};
 
 /// Removes the pair at this entry index, which stands in this bucket, and returns its stored hash. The last pair takes its index.
 #[inline(always)]
-pub(super) fn remove_at<B: Words>(
+pub(super) fn remove_at<B: WordsMut>(
     buckets: &mut B,
     hashes: &mut Vec<u64>,
     index: usize,
@@ -42,10 +42,10 @@ pub(super) fn remove_at<B: Words>(
     hash
 }
 
-/// Writes this entry index, which stands in this bucket, into the bucket of the last pair. Where the pair is the last one
+/// Writes this entry index, which stands in this bucket, into the bucket of the last pair. If the pair is the last one
 /// nothing is read.
 #[inline(always)]
-fn rename_last<B: Words>(
+fn rename_last<B: WordsMut>(
     buckets: &mut B,
     hashes: &[u64],
     index: usize,
@@ -56,7 +56,7 @@ fn rename_last<B: Words>(
     requires within { index < length hashes.now }
     requires at { slice_index (B.words buckets.old) bucket ≡ index + 1 }
     requires fits { length hashes.now ≤ B.most buckets.old }
-    ensures renames { Renames hashes.now (B.words buckets.old) index (B.words buckets.new)
+    ensures renames { RenamesLast hashes.now (B.words buckets.old) index (B.words buckets.new)
         tally.old tally.new }
     ensures most { B.most buckets.new ≡ B.most buckets.old }
 {
@@ -80,7 +80,7 @@ pub(super) fn bucket_of<B: Words>(
     requires within { index < length hashes.now }
     ensures within { result < length (B.words buckets.now) }
     ensures at { slice_index (B.words buckets.now) result ≡ index + 1 }
-    ensures near { probe_reads (length (B.words buckets.now)) (slice_index hashes.now index) result
+    ensures near { reads_up_to (length (B.words buckets.now)) (slice_index hashes.now index) result
         < reach hashes.now (length (B.words buckets.now)) (slice_index hashes.now index) }
     ensures cost { tally.new ≡ looked_more (probe_distance (length (B.words buckets.now))
         (home (length (B.words buckets.now)) (slice_index hashes.now index)) result + 1) tally.old }
@@ -104,7 +104,7 @@ fn probe_distance(from: usize, to: usize, count: usize) -> usize
     to + (count - from) & (count - 1)
 }
 
-/// Returns `chosen` where the first number is less than the second, and else `other`. It takes no branch, which would often be
+/// Returns `chosen` if the first number is less than the second, and otherwise `other`. It takes no branch, which would often be
 /// mispredicted.
 #[inline(always)]
 fn if_less(first: usize, second: usize, chosen: usize, other: usize) -> usize
@@ -120,7 +120,7 @@ fn if_less(first: usize, second: usize, chosen: usize, other: usize) -> usize
 
 /// Shifts pairs back into a bucket whose pair was removed, the gap. It goes up to the next empty bucket. Each pair on the way
 /// whose home bucket is not after the gap moves into it, and leaves its own bucket as the gap. No gap is read; the last is emptied.
-fn backward_shift<B: Words>(buckets: &mut B, hashes: &[u64], removed: usize, tally: &mut Tally)
+fn backward_shift<B: WordsMut>(buckets: &mut B, hashes: &[u64], removed: usize, tally: &mut Tally)
     requires count { IsBucketCount (length (B.words buckets.old)) }
     requires removed { IsIndexedWithGap hashes.now (slice_set (B.words buckets.old) removed 0)
         removed }
@@ -138,7 +138,7 @@ fn backward_shift<B: Words>(buckets: &mut B, hashes: &[u64], removed: usize, tal
     let mut word = buckets.word_at(bucket, tally);
     while word != 0 {
         let from_home = probe_distance(home(hashes[word - 1], count), bucket, count);
-        // The pair stays where its home bucket is after the gap. Else it moves into the gap, and leaves one.
+        // The pair stays where its home bucket is after the gap. Otherwise it moves into the gap, and leaves one.
         let place = if_less(from_home, distance, bucket, gap);
         buckets.set_word(place, word);
         gap = if_less(from_home, distance, gap, bucket);

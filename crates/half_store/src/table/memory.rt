@@ -7,15 +7,14 @@ ghost use Rattle.half_store.specs.Words.{word_size};
 use super::Table;
 use super::probe::first_empty;
 use crate::blocks::{copy_all, move_to};
-use crate::buckets::HashedBuckets;
 use crate::capacity::{capacity_of, least_buckets};
 use crate::refusal::check_size;
-use crate::words::{WordMemory, Words};
+use crate::words::{MOST_IN_FOUR_BYTES, WordArray, WordMemory, Words, WordsMut};
 use crate::{Refusal, uncounted};
 use std::alloc::{AllocError, Global};
 use std::marker::Model;
 
-/// Memory for a table, all of which is granted, and nothing filled. Its value is how many buckets it is for.
+/// Memory for a table: all of it is granted, and none of it is filled. Its value is how many buckets it is for.
 #[derive(Drop)]
 pub struct TableMemory {
     buckets: WordMemory,
@@ -55,10 +54,14 @@ impl TableMemory {
         requires { IsBucketCount buckets }
         ensures { IfOk result (λ m. m ≡ buckets) }
     {
-        Ok(TableMemory {
-            buckets: WordMemory::for_buckets(alloc, buckets)?,
-            hashes: Vec::with_capacity(alloc, capacity_of(buckets))?,
-        })
+        let capacity = capacity_of(buckets);
+        let buckets = if capacity <= MOST_IN_FOUR_BYTES {
+            WordMemory::FourBytes(Vec::with_capacity(alloc, buckets)?)
+        } else {
+            WordMemory::EightBytes(Vec::with_capacity(alloc, buckets)?)
+        };
+        let hashes = Vec::with_capacity(alloc, capacity)?;
+        Ok(TableMemory { buckets, hashes })
     }
 
     /// How many pairs the table will have capacity for.
@@ -136,13 +139,16 @@ impl Table {
         ensures words { result.1 ≡ buckets_of (capacity_of self.now.buckets) }
         ensures size { result.2 ≡ word_size (capacity_of self.now.buckets) }
     {
-        let (words, size) = self.buckets.memory();
-        (self.hashes.capacity(), words, size)
+        let hashes = self.hashes.capacity();
+        match &self.buckets {
+            WordArray::FourBytes(array) => (hashes, array.words.capacity(), size_of::<u32>()),
+            WordArray::EightBytes(array) => (hashes, array.words.capacity(), size_of::<usize>()),
+        }
     }
 }
 
 /// Puts all pairs into empty buckets, in the order of their entry indices.
-pub(crate) fn rehash<B: Words>(buckets: &mut B, hashes: &[u64])
+pub(crate) fn rehash<B: WordsMut>(buckets: &mut B, hashes: &[u64])
     requires count { IsBucketCount (length (B.words buckets.old)) }
     requires empty { B.words buckets.old ≡ replicate (length (B.words buckets.old)) 0 }
     requires capacity { length hashes.now ≤ capacity_of (length (B.words buckets.old)) }
@@ -152,11 +158,7 @@ pub(crate) fn rehash<B: Words>(buckets: &mut B, hashes: &[u64])
     ensures most { B.most buckets.new ≡ B.most buckets.old }
 {
     for index in 0..hashes.len() {
-        let held = HashedBuckets {
-            buckets,
-            hashes: &hashes[..index],
-        };
-        let bucket = uncounted!(first_empty(&held, hashes[index]));
+        let bucket = uncounted!(first_empty(buckets, &hashes[..index], hashes[index]));
         buckets.set_word(bucket, index + 1);
     }
 }

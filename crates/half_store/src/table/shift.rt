@@ -9,7 +9,7 @@ ghost use Rattle.half_store.specs.Table.{IsIndexed, IsTablePlace};
 use super::Table;
 use super::deletion::remove_at;
 use crate::Tally;
-use crate::words::{Words, of_either_size};
+use crate::words::{WordsMut, of_either_size};
 
 impl Table {
     /// Removes the pair at this entry index, which stands in this bucket. Each pair behind it gets the index before its own. It
@@ -30,7 +30,7 @@ impl Table {
 }
 
 /// Removes the pair at this entry index, as `Table::shift_remove_at` does.
-fn shift_in<B: Words>(
+fn shift_in<B: WordsMut>(
     buckets: &mut B,
     hashes: &mut Vec<u64>,
     index: usize,
@@ -58,7 +58,7 @@ fn shift_in<B: Words>(
 
 /// Makes the pair at this entry index the last one, as far as the buckets go: each pair behind it gets the index before its own.
 #[tactic(auto)]
-fn move_to_end<B: Words>(buckets: &mut B, index: usize, pairs: usize, tally: &mut Tally)
+fn move_to_end<B: WordsMut>(buckets: &mut B, index: usize, pairs: usize, tally: &mut Tally)
     requires within { index < pairs }
     requires each { EachOnce pairs (B.words buckets.old) }
     requires fits { pairs ≤ B.most buckets.old }

@@ -3,7 +3,7 @@ ghost use Rattle.std.specs.Prelude.{◌≡◌, ◌<◌, ◌≤◌, min, [], leng
 ghost use Rattle.std.specs.List.{AllZip};
 
 use super::Columns;
-use crate::blocks::{clone_all, grow_with_column, move_to};
+use crate::blocks::{clone_all, grow, move_to};
 use std::alloc::{AllocError, Global};
 
 impl<K, V> Columns<K, V> {
@@ -49,13 +49,6 @@ impl<K, V> Columns<K, V> {
         self.keys.capacity()
     }
 
-    /// For how many elements the columns have memory: of the keys, and of the values.
-    pub fn capacities(&self) -> (usize, usize)
-        ensures { result ≡ (self.now.capacity, self.now.capacity) }
-    {
-        (self.keys.capacity(), self.values.capacity())
-    }
-
     /// Shrinks a greater capacity to this one, which must be enough for the pairs. On error nothing changes.
     pub(crate) fn shrink_to(&mut self, capacity: usize) -> Result<(), AllocError>
         requires { length self.old.pairs ≤ capacity }
@@ -81,7 +74,12 @@ impl<K, V> Columns<K, V> {
         ensures ok { OnOk result (self.new.capacity ≡ capacity) }
         ensures err { OnErr result (self.new ≡ self.old) }
     {
-        let values = grow_with_column(&mut self.keys, capacity)?;
+        let values = Vec::with_capacity(*self.keys.allocator(), capacity)?;
+        // Grown last: only the last block may be extended in place.
+        if let Err(refused) = grow(&mut self.keys, capacity) {
+            values.destroy_empty();
+            return Err(refused);
+        }
         move_to(&mut self.values, values);
         Ok(())
     }

@@ -7,8 +7,8 @@ ghost use Rattle.std.specs.Map.Calls.{CalledAtPair, TakesPair, CallableOnEachPai
 use super::Columns;
 
 impl<K, V> Columns<K, V> {
-    /// Calls `f` at each pair, in order, and keeps those that it accepts, in their order, with the values that it left. Where
-    /// there is a column of hashes beside the pairs, those of the pairs that are kept come first in it, in their order. The
+    /// Calls `f` at each pair, in order, and keeps those that it accepts, in their order, with the values that it left. If
+    /// there is a column of hashes next to the pairs, those of the pairs that are kept come first in it, in their order. The
     /// capacity stays, and no memory is taken.
     #[inline(always)]
     pub fn retain<F: FnMut(&K, &mut V) -> bool>(&mut self, hashes: &mut [u64], f: F)
@@ -34,7 +34,7 @@ impl<K, V> Columns<K, V> {
     }
 }
 
-// Moves the pairs that `f` accepts to the front, in their order, and returns how many there are. Their hashes, where there
+// Moves the pairs that `f` accepts to the front, in their order, and returns how many there are. Their hashes, if there
 // are any, move with them.
 fn retain_in_columns<K, V, F: FnMut(&K, &mut V) -> bool>(
     keys: &mut [K],

@@ -1,7 +1,7 @@
 //! A search for the first key that matches.
 ghost use Rattle.std.specs.Prelude.{◌≡◌, ℕ, ◌-◌, ◌<◌, ◌≤◌, true, false, length};
 ghost use Rattle.std.specs.Fn.{FnReturnsAt};
-ghost use Rattle.half_store.specs.Search.{CallableOnKeys, ReturnsAt, IsFirstMatch, ComparesInOrder};
+ghost use Rattle.half_store.specs.Search.{CallableOnKeys, ReturnsAt, IsFirstMatch, IsVectorSearchCost};
 ghost use Rattle.half_store.specs.Work.{compared_more};
 ghost use Rattle.half_store.specs.declared.vecmap.search.Scan.TheVariants.{ByBlock};
 
@@ -30,10 +30,10 @@ pub(crate) fn first_match<K, F: Fn(&K) -> bool>(
 ) -> Option<usize>
     requires { CallableOnKeys (F.pre matches.now) keys.now }
     ensures first { IsFirstMatch (FnReturnsAt F.Fn matches.now) keys.now result }
-    ensures work { ComparesInOrder scan result (length keys.now) tally.old tally.new }
+    ensures work { IsVectorSearchCost scan result (length keys.now) tally.old tally.new }
 {
     // Keys of at most eight bytes are small: to compare one costs less than a mispredicted branch. The prover knows that n times
-    // the size of a key fits a usize only where there are n keys: hence the test for no keys, and the `1 *`.
+    // the size of a key fits a usize only if there are n keys: hence the test for no keys, and the `1 *`.
     if let Scan::ByBlock = scan
         && !keys.is_empty()
         && 1 * size_of::<K>() <= 8
@@ -56,7 +56,7 @@ fn first_match_by_block<K, F: Fn(&K) -> bool>(
 ) -> Option<usize>
     requires { CallableOnKeys (F.pre matches.now) keys.now }
     ensures first { IsFirstMatch (FnReturnsAt F.Fn matches.now) keys.now result }
-    ensures work { ComparesInOrder ByBlock result (length keys.now) tally.old tally.new }
+    ensures work { IsVectorSearchCost ByBlock result (length keys.now) tally.old tally.new }
 {
     // Most vectors are one block, and a loop over it would take a quarter longer.
     if keys.len() <= BLOCK {
@@ -85,7 +85,7 @@ fn first_match_by_block<K, F: Fn(&K) -> bool>(
 }
 
 // The index of the first key that matches from `start` on, or `end`. It compares all keys between, so that no branch depends
-// on where one matches.
+// on if one matches.
 #[inline(always)]
 fn first_match_between<K, F: Fn(&K) -> bool>(
     keys: &[K],

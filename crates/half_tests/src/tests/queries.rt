@@ -1,6 +1,7 @@
 //! Look-ups by a text or a slice that has no owner, for each type of key: in a vector and in a table.
 
-use halfbrown::{DefaultHashBuilder, Equivalent, SizedHashMap};
+use half_examples::conditions::by_index;
+use halfbrown::{Equivalent, SizedHashMap};
 use std::alloc::{AllocError, Global};
 use std::borrow::{CowSlice, CowStr};
 use std::boxed::{BoxedSlice, BoxedStr};
@@ -37,18 +38,6 @@ fn assert_found_at<K: Eq + Hash + Debug + Drop, Q: Equivalent<K>, const N: usize
     let removed = (map.remove(query), map.get_key_value(query).is_none());
     let expected = ((Some(2), Some(2)), (Some(2), true));
     assert_same_at(N, (found, removed), expected, "held, and then gone")
-}
-
-// By `[]`, where the key is held.
-pub fn by_index<K: Eq + Hash + Drop, V: Copy + Drop, Q: Equivalent<K>, const N: usize>(
-    map: &SizedHashMap<K, V, DefaultHashBuilder, N>,
-    query: Q,
-) -> Option<V> {
-    if map.contains_key(query) {
-        Some(map[query])
-    } else {
-        None
-    }
 }
 
 #[test]

@@ -138,8 +138,10 @@ fn three_of_one_home(rt: HostRuntime) -> Result<(), Fail> {
         Found(11, 0, 0, 2),
         // The pair that is lost is placed anew, through buckets 3 and 0.
         Probed(3, 1, 3),
+        // The last one has its home.
+        Remove(1, 7),
+        Found(11, 0, 3, 1),
         Remove(0, 11),
-        Remove(0, 7),
         Searched(15, NONE, (Err(3), 0, 1)),
     ];
     play(rt.alloc(), 0, &[3, 7, 11], &steps)
@@ -172,20 +174,45 @@ fn around_the_end(rt: HostRuntime) -> Result<(), Fail> {
     play(rt.alloc(), 0, &[u64::MAX, 3, 0], &steps)
 }
 
+// What 14, 7, 15 and 0 make each search read, whatever was there before.
+const WITHOUT_SIX: [Step; 4] = [
+    Searched(8, NONE, (Err(2), 0, 3)),
+    Searched(22, NONE, (Err(2), 0, 5)),
+    Searched(23, NONE, (Err(2), 0, 4)),
+    Searched(3, NONE, (Err(3), 0, 1)),
+];
+
 #[test]
 fn a_removal_around_the_end(rt: HostRuntime) -> Result<(), Fail> {
     let steps = [Found(0, 4, 2, 3), Remove(0, 6), Found(0, 0, 1, 2)];
-    play(rt.alloc(), 5, &[6, 14, 7, 15, 0], &steps)
+    let mut table = table_of(rt.alloc(), 5, &[6, 14, 7, 15, 0])?;
+    play_steps(rt.alloc(), &mut table, &steps)?;
+    play_steps(rt.alloc(), &mut table, &WITHOUT_SIX)?;
+    play(rt.alloc(), 5, &[0, 15, 14, 7], &WITHOUT_SIX)
 }
 
 #[test]
 fn each_second_bucket(rt: HostRuntime) -> Result<(), Fail> {
-    play(rt.alloc(), 12, &[0, 2, 4, 6, 8, 10], &[Found(0, 0, 0, 1)])
+    let steps = [
+        Found(0, 0, 0, 1),
+        Searched(16, NONE, (Err(1), 0, 2)),
+        Searched(12, NONE, (Err(12), 0, 1)),
+    ];
+    play(rt.alloc(), 12, &[0, 2, 4, 6, 8, 10], &steps)
+}
+
+#[test]
+fn under_another_hash(rt: HostRuntime) -> Result<(), Fail> {
+    let steps = [Searched(999, NONE, (Err(3), 0, 1))];
+    play(rt.alloc(), 0, &[8, 16], &steps)
 }
 
 #[test]
 fn three_of_one_hash(rt: HostRuntime) -> Result<(), Fail> {
-    let steps = [Searched(0, 2, (Ok((2, 2)), 3, 3))];
+    let steps = [
+        Searched(0, 2, (Ok((2, 2)), 3, 3)),
+        Searched(0, NONE, (Err(3), 3, 4)),
+    ];
     play(rt.alloc(), 0, &[0, 0, 0], &steps)?;
     let top = u64::MAX;
     let steps = [

@@ -2,29 +2,14 @@
 
 use half_callers::basics::ages_by_names_of_others;
 use half_uses::object::Object;
-use halfbrown::{HashMap, Refusal, Refused, RefusedKey, SizedHashMap};
+use halfbrown::{HashMap, Refusal, Refused, RefusedKey};
 use json_value::{Error, Value};
 use std::alloc::Global;
 use std::fmt::Debug;
 use std::hash::RandomState;
 use std::io;
 use std::test::Fail;
-use test_support::asserts::{assert_same, assert_same_at, assert_true};
-
-fn assert_printed<const N: usize>(alloc: Global) -> Result<(), Fail> {
-    let mut map = SizedHashMap::<&str, &str, _, N>::new(alloc);
-    map.insert("one", "a")?;
-    map.insert("two", "b")?;
-    let text = format!(in alloc; "{map:?}")?;
-    let expected = "{\"one\": \"a\", \"two\": \"b\"}";
-    assert_same_at(N, text.as_str(), expected, "texts in quotes")
-}
-
-#[test]
-fn texts_are_printed_in_order(rt: HostRuntime) -> Result<(), Fail> {
-    assert_printed::<5>(rt.alloc())?;
-    assert_printed::<0>(rt.alloc())
-}
+use test_support::asserts::{assert_same, assert_same_at};
 
 // Plain, in lines, with signs, and with a width, which is that of each key and of each value.
 fn assert_forms<T: Debug>(alloc: Global, shown: &T, expected: [&str; 4]) -> Result<(), Fail> {
@@ -124,7 +109,7 @@ fn an_io_error_has_the_text_of_its_reason(rt: HostRuntime) -> Result<(), Fail> {
 fn names_of_others_are_hashed_at_random(rt: HostRuntime) -> Result<(), Fail> {
     let mut ages = ages_by_names_of_others(&rt, rt.alloc())?;
     add_forty(rt.alloc(), &mut ages)?;
-    assert_true(ages.is_map(), "more than a vector holds")?;
+    assert_same(ages.is_map(), true, "more than a vector holds")?;
     let held = ["0", "7", "39", "40"].map(|name| ages.get(name).copied());
     assert_same(held, [Some(0), Some(7), Some(39), None], "the ages")
 }

@@ -14,7 +14,7 @@ use std::alloc::{AllocError, Global};
 use std::cell::Cell;
 use std::fmt::Debug;
 use std::test::Fail;
-use test_support::asserts::{assert_same, assert_same_at, assert_true};
+use test_support::asserts::{assert_same, assert_same_at};
 use test_support::builders::{Counting, Rule};
 
 // Of ten values, for which the table grows twice.
@@ -73,20 +73,20 @@ fn a_set_keeps_the_order_of_insertions(rt: HostRuntime) -> Result<(), Fail> {
 
 fn extend(alloc: Global, set: &mut HashSet<u64>) -> Result<(), Fail> {
     let others = HashSet::<u64>::from_iter(alloc, [3, 4, 1, 3])?;
-    assert_true(!set.is_subset(&others), "2 is not there")?;
+    assert_same(set.is_subset(&others), false, "2 is not there")?;
     set.extend(others.iter().copied())?;
-    assert_true(others.is_subset(set), "all of them are there")?;
+    assert_same(others.is_subset(set), true, "all of them are there")?;
     assert_same((set.contains(&2), set.len()), (true, 4), "1 to 4")
 }
 
 fn insert_and_remove(alloc: Global, set: &mut HashSet<u64>) -> Result<(), Fail> {
     let same = HashSet::<u64>::from_iter(alloc, [4, 3, 2, 1])?;
-    assert_true(*set == same, "in any order")?;
+    assert_same(*set == same, true, "in any order")?;
     let removed = (set.remove(&2), set.remove(&2));
     assert_same(removed, (true, false), "it was there once")?;
     let inserted = (set.insert(5)?, set.insert(5)?);
     assert_same(inserted, (true, false), "new once")?;
-    assert_true(!set.is_empty(), "four are left")
+    assert_same(set.is_empty(), false, "four are left")
 }
 
 #[test]
@@ -165,7 +165,7 @@ fn add_where_it_fits(
     value: u64,
 ) -> Result<(), Fail> {
     if sums.total() > u64::MAX - value {
-        return assert_true(false, "the sum fits");
+        return Err(Fail::new("the sum does not fit"));
     }
     sums.add(labels_of(alloc, pairs)?, value)?;
     Ok(())
@@ -207,6 +207,17 @@ fn values_are_summed_by_labels(rt: HostRuntime) -> Result<(), Fail> {
 }
 
 #[test]
+fn labels_print_in_order(rt: HostRuntime) -> Result<(), Fail> {
+    let alloc = rt.alloc();
+    let pairs = [("method", "GET"), ("status", "200"), ("method", "PUT")];
+    let labels = labels_of(alloc, &pairs)?;
+    let printed = format!(in alloc; "{labels}; {}", Labels::new(alloc))?;
+    assert_same(printed.as_str(), "method=PUT, status=200; ", "and none")?;
+    let first = labels.iter().next().map(|label| label.1.as_str());
+    assert_same(first, Some("PUT"), "the last text")
+}
+
+#[test]
 fn a_bank_keeps_its_total(rt: HostRuntime) -> Result<(), Fail> {
     let mut bank = Bank::<u64>::new(rt.alloc());
     bank.open(1, 50)?;
@@ -239,7 +250,7 @@ fn object(alloc: Global) -> Result<Object<String, u64>, Fail> {
 fn an_object_has_members_in_order(rt: HostRuntime) -> Result<(), Fail> {
     let mut members = object(rt.alloc())?;
     let same = object(rt.alloc())?;
-    assert_true(members.has_same_members(&same), "the same")?;
+    assert_same(members.has_same_members(&same), true, "the same")?;
     assert_members(rt.alloc(), &members)?;
     let removed = members.remove("id");
     let first = members.members().next().map(|member| *member.1);
@@ -265,9 +276,9 @@ fn enter_and_leave(scopes: &mut Scopes<&str, u64>) -> Result<(), Fail> {
     assert_same(scopes.declare("x", 10)?, None, "new in this scope")?;
     let seen = ["x", "y", "z"].map(|name| scopes.resolve(&name).copied());
     assert_same(seen, [Some(10), Some(2), None], "through two scopes")?;
-    assert_true(scopes.leave(), "the inner one")?;
+    assert_same(scopes.leave(), true, "the inner one")?;
     assert_same(scopes.resolve(&"x").copied(), Some(1), "the outer x")?;
-    assert_true(!scopes.leave(), "the outermost is not left")
+    assert_same(scopes.leave(), false, "the outermost is not left")
 }
 
 #[test]

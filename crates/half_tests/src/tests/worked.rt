@@ -6,9 +6,9 @@ ghost use Rattle.std.specs.Hash as fed;
 ghost use Rattle.std.specs.Cmp.Rules.{comparing, hashing};
 ghost use Rattle.std.proofs.Common.{rules};
 
-use super::queries::by_index;
 use super::uses::assert_collected;
 use half_callers::drains::take_first;
+use half_examples::conditions::by_index;
 use halfbrown::{
     DefaultHashBuilder, Entry, HashMap, Limit, LimitedHashMap, RawEntryMut, Refusal, SizedHashMap,
     hashmap,
@@ -18,7 +18,7 @@ use std::cell::Cell;
 use std::hash::{BuildHasher, Hash, Hasher};
 use std::iter::repeat_n;
 use std::test::Fail;
-use test_support::asserts::{assert_same, assert_same_at, assert_true};
+use test_support::asserts::{assert_same, assert_same_at};
 use test_support::builders::{Counting, Rule};
 
 type Letters = HashMap<u64, &'static str>;
@@ -56,7 +56,7 @@ fn lose(map: &mut Texts, key: String) -> Result<(), Fail> {
         let is_vacant = matches!(left, Entry::Vacant(_));
         assert_same((is_vacant, left.key().as_str()), (true, PONIES), "lost")?;
     }
-    assert_true(!map.contains_key(PONIES), "it is gone")
+    assert_same(map.contains_key(PONIES), false, "it is gone")
 }
 
 #[test]
@@ -66,7 +66,7 @@ fn a_letter_is_overwritten(rt: HostRuntime) -> Result<(), Fail> {
 
 fn overwrite(map: &mut Letters) -> Result<(), Fail> {
     assert_same(map.insert(37, "a")?, None, "new")?;
-    assert_true(!map.is_empty(), "it has a pair")?;
+    assert_same(map.is_empty(), false, "it has a pair")?;
     assert_same(map.insert(37, "b")?, Some("a"), "the first letter")?;
     assert_same(map.insert(37, "c")?, Some("b"), "the second")?;
     assert_same(by_index(map, &37), Some("c"), "the third")
@@ -137,7 +137,7 @@ fn one_of_two_letters_is_drained(rt: HostRuntime) -> Result<(), Fail> {
     map.insert(1, "a")?;
     map.insert(2, "b")?;
     assert_same(take_first(&mut map), Some((1, "a")), "the first")?;
-    assert_true(map.is_empty() && map.is_vec(), "drained")
+    assert_same(map.is_empty() && map.is_vec(), true, "drained")
 }
 
 // Equal by its number alone.
@@ -173,7 +173,11 @@ fn a_raw_entry_gets_another_spelling(rt: HostRuntime) -> Result<(), Fail> {
     let mut map = SizedHashMap::<Marked, u64, DefaultHashBuilder, 5>::new(rt.alloc());
     map.insert(Marked(1, 1), 10)?;
     let found = map.raw_entry_mut()?.from_key(&Marked(1, 2));
-    assert_true(matches!(found, RawEntryMut::Occupied(_)), "it is held")?;
+    assert_same(
+        matches!(found, RawEntryMut::Occupied(_)),
+        true,
+        "it is held",
+    )?;
     let mut entry = found.insert(Marked(1, 4), 20);
     assert_same((entry.key().1, *entry.get()), (1, 20), "the stored key")?;
     assert_same(entry.insert_key(Marked(1, 3)).1, 1, "the key before")?;
@@ -235,7 +239,7 @@ fn assert_even_keys_are_kept<const N: usize>(alloc: Global) -> Result<(bool, usi
 #[test]
 fn even_keys_are_kept(rt: HostRuntime) -> Result<(), Fail> {
     let few = assert_even_keys_are_kept::<32>(rt.alloc())?;
-    assert_true(few.0, "a vector")?;
+    assert_same(few.0, true, "a vector")?;
     let table = assert_even_keys_are_kept::<0>(rt.alloc())?;
     assert_same(table, (false, 12), "a table of sixteen buckets")
 }

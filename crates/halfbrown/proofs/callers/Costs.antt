@@ -13,10 +13,10 @@ module _ {K V S : Type 0} (limit : ℕ) (m : State K V S) where
   pub asked_with_room : (granted : Bool) → m.is_vec ≡ true → length m.pairs < limit → insert_asked limit m granted ≡ 0
   asked_with_room granted vector room = grind (arith, nat_tests, common_steps)
 
-  -- else at most each pair for the switch, and the key
+  -- otherwise at most each pair for the switch, and the key
   pub asked_at_most : (granted : Bool) → insert_asked limit m granted ≤ limit + 1
   asked_at_most granted = grind (arith, nat_tests, common_steps)
 
-  -- in a table the key alone
+  -- in a table only the key
   pub asked_in_table : (granted : Bool) → m.is_vec ≡ false → insert_asked limit m granted ≤ 1
   asked_in_table granted table = grind (arith, nat_tests, common_steps)

@@ -1,7 +1,7 @@
 -- What follows of changed lists of pairs, for callers: the set `map_facts` has those that `grind` applies, and `using` takes it.
 use Rattle.halfbrown.proofs.Common.{◌≡◌, ℕ, ◌+◌, ◌<◌, ◌≤◌, Bool, true, false, length, arith, zero, suc, cond, List, [], ◌∷◌, ◌++◌, take, get_or, slice_get, Option}
 use Rattle.halfbrown.proofs.Common.{Some, unwrap_or, refl, ap, ◌∙◌, subst, common_steps, map-append, take_more, IsDistinct-tail, IsEquivalence, IsDistinct, keys_of}
-use Rattle.halfbrown.proofs.Common.{values_of, lookup, lookup_entry, option_map, index_of, swap_remove_at, value_of, holds, holds_by, put, set_value, take_out_by}
+use Rattle.halfbrown.proofs.Common.{values_of, lookup, lookup_entry, option_map, index_of, swap_remove_at, value_of, holds, holds_by, put, set_value, swap_out_by}
 use Rattle.halfbrown.proofs.Common.{HasPut}
 use Rattle.std.proofs.Common.{◌⊎◌}
 use Rattle.std.proofs.Common.{reverse, count_by, map, sum}
@@ -13,17 +13,17 @@ use Rattle.std.proofs.lemmas.List.Sorted.{IsPermutation-reverse}
 use Rattle.std.proofs.lemmas.List.Sums.{count_by-le-length, fold_push}
 use Rattle.std.proofs.lemmas.Map.Entries.{none_past_head, option_filter}
 use Rattle.std.proofs.lemmas.Map.{lookup-none}
-use Rattle.halfbrown.specs.FromIter.{last_value_of}
+use Rattle.halfbrown.specs.Collect.{last_value_of}
 use Rattle.halfbrown.specs.Pairs.{IsQuery}
 use Rattle.halfbrown.proofs.callers.Pairs.{value_of_equal, lookup_permuted}
 use Rattle.halfbrown.proofs.lemmas.pairs.Indices.{value_of_entry}
 use Rattle.halfbrown.proofs.lemmas.pairs.Changes.{map-swap_remove_at}
-use Rattle.halfbrown.specs.CallerLoops.{add_key, CountsEach, SumsEach, GroupsEach}
+use Rattle.halfbrown.specs.ByKey.{add_key, CountsEach, SumsEach, GroupsEach}
 
 -- ---- whether a key is held, and where
 
 module _ {K V : Type 0} (test : K → Bool) where
-  -- a key that passes is held exactly where any key passes
+  -- a key that passes is held exactly if any key passes
   pub holds_by-any : (ps : List (K × V)) → holds_by test ps ≡ list_any test (keys_of ps)
   holds_by-any [] = refl
   holds_by-any (p ∷ ps) = grind (arith, common_steps, holds_by-any ps)
@@ -49,7 +49,7 @@ module _ {K V : Type 0} (test : K → Bool) where
       let m = more found in
       record { index = suc m.index; key = m.key; at = m.at; passes = m.passes; first = grind (arith, common_steps) }
 
-  -- where a value is found its pair stands at an index
+  -- if a value is found its pair stands at an index
   pub place_of_value : (ps : List (K × V)) (v : V) → lookup test ps ≡ Some v → IsPlaced ps v
   place_of_value [] v found = absurd cc
   place_of_value (p ∷ ps) v found = placed_by p ps v (place_of_value ps v) (test p.0) refl found
@@ -61,7 +61,7 @@ module _ {K V : Type 0} (test : K → Bool) where
 
   -- the keys after a removal: the one that passes is gone, and the last is in its place
   pub keys_taken : (ps : List (K × V))
-      → keys_of (take_out_by test ps) ≡ option_map_or (swap_remove_at (keys_of ps)) (index_of test (keys_of ps)) (keys_of ps)
+      → keys_of (swap_out_by test ps) ≡ option_map_or (swap_remove_at (keys_of ps)) (index_of test (keys_of ps)) (keys_of ps)
   keys_taken ps = grind (arith, common_steps, map-swap_remove_at (λ (p : K × V). p.0) ps)
 
 module _ {K V : Type 0} (eq : K → K → Bool) where
@@ -76,7 +76,7 @@ module _ {K V : Type 0} (eq : K → K → Bool) where
 -- ---- after a value was set
 
 module _ {K V : Type 0} (eq : K → K → Bool) (laws : IsEquivalence eq) (test : K → Bool) (query : IsQuery eq test) where
-  -- a key that the test accepts has the value where it had one, and each other key what it had
+  -- a key that the test accepts has the value if it had one, and each other key what it had
   pub lookup_set : (ps : List (K × V)) (v : V) (q : K)
       → value_of eq (set_value test ps v) q ≡ cond (test q) (option_map (λ _. v) (value_of eq ps q)) (value_of eq ps q)
   lookup_set [] v q = grind (arith, common_steps)
@@ -117,7 +117,7 @@ pub keys_after_put : {K V : Type 0} {eq : K → K → Bool} (old new : List (K �
 keys_after_put {eq = eq} old new k v put =
     (put, put.keys ∙ ap (λ b. cond b (keys_of old) (keys_of old ++ k ∷ [])) (holds_by-any (eq k) old))
 
--- where no two keys are equal, the last value of a key is its value
+-- if no two keys are equal, the last value of a key is its value
 pub last_is_value : {K V : Type 0} {eq : K → K → Bool} → IsEquivalence eq → (ps : List (K × V)) → IsDistinct eq (keys_of ps) → (k : K)
     → last_value_of eq ps k ≡ value_of eq ps k
 last_is_value {eq = eq} laws ps distinct k = lookup_permuted eq laws ps (reverse ps) distinct (IsPermutation-reverse ps) k
@@ -168,7 +168,7 @@ module _ {K X V : Type 0} {eq : K → K → Bool} (laws : IsEquivalence eq) (rea
   unwrapped : (o : Option V) (d : V) → read d ≡ [] → read (unwrap_or o d) ≡ option_map_or read o []
   unwrapped o d empty = grind (arith, common_steps)
 
-  -- a put of the values of a key with one more gathers one item more; d, which has none, is put where the key is new
+  -- a put of the values of a key with one more gathers one item more; d, which has none, is put if the key is new
   pub grouped_more : (xs : List (K × X)) (x : X) (d : V) {old new : List (K × V)} {k : K} {v : V} → GroupsEach eq read xs old
       → HasPut eq old k v new
       → read d ≡ [] → read v ≡ read (unwrap_or (value_of eq old k) d) ++ x ∷ [] → GroupsEach eq read (xs ++ (k, x) ∷ []) new
@@ -220,7 +220,7 @@ module _ {K : Type 0} {eq : K → K → Bool} (laws : IsEquivalence eq) where
   summed_step xs i d {old} {new} {k} {v} before puts within item more =
       grind (arith, common_steps, summed_more (take i xs) (get_or xs i d).1 before puts more, take_more xs i d within)
 
-  -- no sum is more than that of all items of its key, so that one more fits where that does
+  -- no sum is more than that of all items of its key, so that one more fits if that does
   pub sum_fits : (xs : List (K × ℕ)) (i : ℕ) (d : K × ℕ) (ps : List (K × ℕ)) (k : K) → SumsEach eq (take i xs) ps → i < length xs
       → k ≡ (get_or xs i d).0
       → unwrap_or (value_of eq ps k) 0 + (get_or xs i d).1 ≤ sum (values_of (filter (λ x. eq k x.0) xs))

@@ -1,7 +1,7 @@
 -- What callers read off a list of pairs after a put or a removal: which key has which value, and how many pairs there are.
 use Rattle.halfbrown.proofs.Common.{◌≡◌, ℕ, ◌+◌, Bool, true, false, length, arith, cond, List, [], ◌∷◌, ◌++◌, get_or, Option, Some, refl, ap, ◌∙◌, None}
 use Rattle.halfbrown.proofs.Common.{is_some, sym, common_steps, map-append, get_or_default, slice_get_within, get_or_from_slice_get, IsEquivalence, IsDistinct}
-use Rattle.halfbrown.proofs.Common.{keys_of, lookup, index_of, swap_remove_at, IsIndexOf, IsAbsent, value_of, holds, put, set_value, take_out_by, HasPut}
+use Rattle.halfbrown.proofs.Common.{keys_of, lookup, index_of, swap_remove_at, KeyFoundAt, KeyMissing, value_of, holds, put, set_value, swap_out_by, HasPut}
 use Rattle.halfbrown.proofs.Common.{HasRemovedBy}
 use Rattle.std.specs.List.Sorted.{IsPermutation}
 use Rattle.std.proofs.Math.ListN.{get_or-map}
@@ -10,7 +10,7 @@ use Rattle.std.proofs.lemmas.Map.{lookup-none}
 use Rattle.std.proofs.lemmas.Map.Entries.{place_from_lookup, none_past_head}
 use Rattle.std.proofs.lemmas.Map.Keys.{IsDistinct-IsPermutation}
 use Rattle.std.proofs.lemmas.Map.Views.{lookup-from_Contains}
-use Rattle.halfbrown.specs.Pairs.{IsQuery, take_out}
+use Rattle.halfbrown.specs.Pairs.{IsQuery, swap_out}
 use Rattle.halfbrown.specs.Updates.{HasRemoved}
 use Rattle.halfbrown.proofs.lemmas.pairs.Indices.{first_of_index, first_passes, index_found, absent_of_index}
 use Rattle.halfbrown.proofs.lemmas.pairs.Changes.{IsPermutation-swap_remove_at, length-swap_remove_at}
@@ -22,7 +22,7 @@ module _ {K V : Type 0} (test : K → Bool) where
   keys_set (p ∷ ps) v = grind (arith, common_steps, keys_set ps v)
 
 module _ {K V : Type 0} (eq : K → K → Bool) where
-  -- a put leaves the keys where an equal one is held, and else adds its key at the end
+  -- a put leaves the keys if an equal one is held, and otherwise adds its key at the end
   pub keys_put : (ps : List (K × V)) (k : K) (v : V) → keys_of (put eq ps k v) ≡ cond (holds eq ps k) (keys_of ps) (keys_of ps ++ k ∷ [])
   keys_put ps k v = grind (arith, common_steps, keys_set, map-append)
 
@@ -30,13 +30,13 @@ module _ {K V : Type 0} (eq : K → K → Bool) where
   pub put_step : (p : K × V) (ps : List (K × V)) (k : K) (v : V) → put eq (p ∷ ps) k v ≡ cond (eq k p.0) ((p.0, v) ∷ ps) (p ∷ put eq ps k v)
   put_step p ps k v = grind (arith, common_steps)
 
-  -- there is one pair more where the key was not held
+  -- there is one pair more if the key was not held
   pub len_put : (ps : List (K × V)) (k : K) (v : V) → length (put eq ps k v) ≡ cond (holds eq ps k) (length ps) (length ps + 1)
   len_put [] k v = refl
   len_put (p ∷ ps) k v = grind (arith, common_steps, len_put ps k v)
 
-  -- there is one pair fewer where the key was held
-  pub len_taken : (ps : List (K × V)) (k : K) → length (take_out eq ps k) + cond (holds eq ps k) 1 0 ≡ length ps
+  -- there is one pair fewer if the key was held
+  pub len_taken : (ps : List (K × V)) (k : K) → length (swap_out eq ps k) + cond (holds eq ps k) 1 0 ≡ length ps
   len_taken ps k = grind (arith, common_steps, absent_of_index (eq k) ps, index_found (eq k) ps, length-swap_remove_at)
 
 module _ {K : Type 0} (eq : K → K → Bool) (laws : IsEquivalence eq) where
@@ -117,7 +117,7 @@ module _ {K V : Type 0} (eq : K → K → Bool) (laws : IsEquivalence eq) where
 
   -- ---- a removal
 
-  passing : (test : K → Bool) (ps : List (K × V)) (i : ℕ) → IsIndexOf test ps i → (p : K × V) × (p ≡ get_or ps i p) × (test p.0 ≡ true)
+  passing : (test : K → Bool) (ps : List (K × V)) (i : ℕ) → KeyFoundAt test ps i → (p : K × V) × (p ≡ get_or ps i p) × (test p.0 ≡ true)
   passing test [] i at = absurd (omega arith)
   passing test (q ∷ ps) i at = (
     get_or (q ∷ ps) i q,
@@ -128,7 +128,7 @@ module _ {K V : Type 0} (eq : K → K → Bool) (laws : IsEquivalence eq) where
 
   module _ (test : K → Bool) (query : IsQuery eq test) (ps : List (K × V)) (distinct : IsDistinct eq (keys_of ps)) where
     -- the pairs are the one whose key passes and those that are left, in another order
-    pub has_left : (i : ℕ) → IsIndexOf test ps i → (left : List (K × V))
+    pub has_left : (i : ℕ) → KeyFoundAt test ps i → (left : List (K × V))
         → ((p : K × V) → p ≡ get_or ps i p → IsPermutation ps (p ∷ left)) → HasRemovedBy eq test ps left
     has_left i at left orders =
         let found = passing test ps i at in
@@ -146,7 +146,7 @@ module _ {K V : Type 0} (eq : K → K → Bool) (laws : IsEquivalence eq) where
         }
 
     -- or none passes
-    pub has_all : IsAbsent test ps → HasRemovedBy eq test ps ps
+    pub has_all : KeyMissing test ps → HasRemovedBy eq test ps ps
     has_all absent = record {
       not_held = absent.held;
       no_value = absent.value;
@@ -155,34 +155,34 @@ module _ {K V : Type 0} (eq : K → K → Bool) (laws : IsEquivalence eq) where
       len = rw absent.held refl;
     }
 
-    removed_by : (index : Option ℕ) → index ≡ index_of test (keys_of ps) → HasRemovedBy eq test ps (take_out_by test ps)
+    removed_by : (index : Option ℕ) → index ≡ index_of test (keys_of ps) → HasRemovedBy eq test ps (swap_out_by test ps)
     removed_by (Some i) is =
         let at = index_found test ps i is in
         rw at.take_is (has_left i at (swap_remove_at ps i) (λ p. IsPermutation-swap_remove_at ps i p at.within))
     removed_by None is = let absent = absent_of_index test ps is in rw absent.take_is (has_all absent)
 
     -- no key that passes has a value, and each other key has what it had
-    pub has_removed_by : HasRemovedBy eq test ps (take_out_by test ps)
+    pub has_removed_by : HasRemovedBy eq test ps (swap_out_by test ps)
     has_removed_by = removed_by (index_of test (keys_of ps)) refl
 
   module _ (ps : List (K × V)) (distinct : IsDistinct eq (keys_of ps)) (k : K) where
-    pub has_removed : HasRemoved eq ps k (take_out eq ps k)
+    pub has_removed : HasRemoved eq ps k (swap_out eq ps k)
     has_removed = has_removed_by (eq k) (laws.congr k) ps distinct
 
     -- no equal of the key has a value, and each other key has what it had
-    pub lookup_taken : (q : K) → value_of eq (take_out eq ps k) q ≡ cond (eq k q) None (value_of eq ps q)
+    pub lookup_taken : (q : K) → value_of eq (swap_out eq ps k) q ≡ cond (eq k q) None (value_of eq ps q)
     lookup_taken q = grind (arith, common_steps, has_removed.equals q, has_removed.others q)
 
     query_found : (test : K → Bool) → IsQuery eq test → ((q : K) → eq k q ≡ true → test q ≡ false) → (q : K) → test q ≡ true
-        → lookup test (take_out eq ps k) ≡ lookup test ps
+        → lookup test (swap_out eq ps k) ≡ lookup test ps
     query_found test query apart q passes =
         let same : test ≡ eq q = λ i x. query q x passes i in
         rw same (has_removed.others q (grind (arith, common_steps, apart q)))
 
     -- a query that stands for no equal of the key finds what it found
     pub query_taken : (test : K → Bool) → IsQuery eq test → ((q : K) → eq k q ≡ true → test q ≡ false)
-        → lookup test (take_out eq ps k) ≡ lookup test ps
+        → lookup test (swap_out eq ps k) ≡ lookup test ps
     query_taken test query apart =
-        let there = place_from_lookup test (take_out eq ps k) in
+        let there = place_from_lookup test (swap_out eq ps k) in
         let was = place_from_lookup test ps in
         grind (arith, common_steps, query_found test query apart, there, was)

@@ -1,7 +1,7 @@
 -- Pairs under what is read of their keys, as texts under their bytes: a look-up, a put, a set value and a removal there.
 use Rattle.halfbrown.proofs.Common.{◌≡◌, ℕ, ◌+◌, ◌<◌, ◌≤◌, Bool, true, false, length, arith, cond, List, [], ◌∷◌, ◌++◌, take, get_or, Option, Some, unwrap_or, refl}
 use Rattle.halfbrown.proofs.Common.{ap, ◌∙◌, sym, subst, map, common_steps, map-append, take_more, IsEquivalence, AllByRecursion, keys_of, values_of, lookup, option_map}
-use Rattle.halfbrown.proofs.Common.{index_of, value_of, put, set_value, take_out_by, Removes, State, HasPut}
+use Rattle.halfbrown.proofs.Common.{index_of, value_of, put, set_value, swap_out_by, SwapRemoves, State, HasPut}
 use Rattle.std.proofs.Common.{String, sum}
 use Rattle.std.specs.Cmp.Lexicographic.{nat_list_eq_equiv}
 use Rattle.std.specs.List.{IsDistinct, filter}
@@ -13,7 +13,7 @@ use Rattle.halfbrown.specs.Making.{ArePairClones, ClonesAreCopies, IsCloneOf}
 use Rattle.halfbrown.specs.Updates.{HasRemoved}
 use Rattle.halfbrown.proofs.callers.Pairs.{has_put, has_removed}
 use Rattle.halfbrown.proofs.lemmas.pairs.Changes.{map-swap_remove_at}
-use Rattle.halfbrown.specs.CallerLoops.{CountsEach, SumsEach, keyed_by}
+use Rattle.halfbrown.specs.ByKey.{CountsEach, SumsEach, keyed_by}
 use Rattle.halfbrown.proofs.callers.Keys.{count_fits, counted_more, summed_more, sum_within, lookup_set}
 
 module _ {K B V : Type 0} (read : K → B) (test : B → Bool) where
@@ -30,11 +30,11 @@ module _ {K B V : Type 0} (read : K → B) (test : B → Bool) where
   index_read [] = refl
   index_read (p ∷ ps) = grind (arith, common_steps, index_read ps)
 
-  pub keyed_by-take_out : (ps : List (K × V)) → keyed_by read (take_out_by (λ k. test (read k)) ps) ≡ take_out_by test (keyed_by read ps)
-  keyed_by-take_out ps = grind (arith, common_steps, index_read ps, map-swap_remove_at {A = K × V} {B = B × V} (λ p. (read p.0, p.1)) ps)
+  pub keyed_by-swap_out : (ps : List (K × V)) → keyed_by read (swap_out_by (λ k. test (read k)) ps) ≡ swap_out_by test (keyed_by read ps)
+  keyed_by-swap_out ps = grind (arith, common_steps, index_read ps, map-swap_remove_at {A = K × V} {B = B × V} (λ p. (read p.0, p.1)) ps)
 
 module _ {K B V : Type 0} (read : K → B) (same : B → B → Bool) where
-  -- a put, where keys are equal exactly where what is read of them is
+  -- a put, if keys are equal exactly if what is read of them is
   pub keyed_by-put : (ps : List (K × V)) (k : K) (v : V)
       → keyed_by read (put (λ x y. same (read x) (read y)) ps k v) ≡ put same (keyed_by read ps) (read k) v
   keyed_by-put ps k v =
@@ -122,7 +122,7 @@ module _ {V Y S : Type 0} {limit : ℕ} {old new : State (String Y) V S} {k : St
       → HasPut bytes_eq (keyed_by string_bytes old.pairs) (string_bytes k) v (keyed_by string_bytes new.pairs)
   has_put_text = has_put_read string_bytes nat_list_eq_equiv
 
-  -- what every other text has after it, where the text of the key is known
+  -- what every other text has after it, if the text of the key is known
   pub others_text : Puts limit string_eq old k v needs new → (text : List ℕ) → string_bytes k ≡ text
       → (other : List ℕ) → bytes_eq text other ≡ false
       → value_of bytes_eq (keyed_by string_bytes new.pairs) other ≡ value_of bytes_eq (keyed_by string_bytes old.pairs) other
@@ -130,11 +130,11 @@ module _ {V Y S : Type 0} {limit : ℕ} {old new : State (String Y) V S} {k : St
 
 -- what the removal of a text leaves for every text
 pub has_removed_text : {V R Y S : Type 0} {limit : ℕ} {old new : State (String Y) V S} {held result : Option R} (text : List ℕ)
-    → IsDistinct string_eq (keys_of old.pairs) → Removes limit string_eq (λ k. bytes_eq text (string_bytes k)) old held result new
+    → IsDistinct string_eq (keys_of old.pairs) → SwapRemoves limit string_eq (λ k. bytes_eq text (string_bytes k)) old held result new
     → HasRemoved bytes_eq (keyed_by string_bytes old.pairs) text (keyed_by string_bytes new.pairs)
 has_removed_text {old = old} {new = new} text distinct removes =
     subst (HasRemoved bytes_eq (keyed_by string_bytes old.pairs) text)
-    (sym (ap (keyed_by string_bytes) removes.after.pairs ∙ keyed_by-take_out string_bytes (bytes_eq text) old.pairs))
+    (sym (ap (keyed_by string_bytes) removes.after.pairs ∙ keyed_by-swap_out string_bytes (bytes_eq text) old.pairs))
     (has_removed bytes_eq nat_list_eq_equiv (keyed_by string_bytes old.pairs) (keyed_by-distinct string_bytes bytes_eq old.pairs distinct)
     text)
 
@@ -163,7 +163,7 @@ pub summed_text_step :
     → SumsEach bytes_eq (map of (take (i + 1) xs)) (keyed_by string_bytes new.pairs)
 summed_text_step = summed_read_step string_bytes nat_list_eq_equiv
 
--- no sum is more than that of all items of its text, so that one more fits where that does
+-- no sum is more than that of all items of its text, so that one more fits if that does
 pub sum_text_fits :
     {A Y : Type 0} (of : A → List ℕ × ℕ) (xs : List A) (i : ℕ) (d : A) (ps : List (String Y × ℕ)) (k : String Y)
     → SumsEach bytes_eq (map of (take i xs)) (keyed_by string_bytes ps) → i < length xs → string_bytes k ≡ (of (get_or xs i d)).0
@@ -177,7 +177,7 @@ pub count_text_fits : {A Y : Type 0} (of : A → List ℕ) (xs : List A) (ps : L
     → (k : String Y) → unwrap_or (value_of string_eq ps k) 0 ≤ length xs
 count_text_fits = count_read_fits string_bytes nat_list_eq_equiv
 
--- the clone of a map has its texts with their values, where these are copied
+-- the clone of a map has its texts with their values, if these are copied
 pub cloned_texts : {V S Y : Type 0} {value_clone : V → V → Type 0} {builder_clone : S → S → Type 0} {old new : State (String Y) V S}
     → ClonesAreCopies value_clone → IsCloneOf (λ k copy. string_bytes copy ≡ string_bytes k) value_clone builder_clone old new
     → keyed_by string_bytes new.pairs ≡ keyed_by string_bytes old.pairs

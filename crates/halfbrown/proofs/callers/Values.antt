@@ -3,7 +3,7 @@
 use Rattle.halfbrown.proofs.Common.{◌≡◌, ℕ, ◌+◌, ◌≤◌, Bool, length, arith, cond, List, [], ◌∷◌, ◌++◌, get_or, slice_get, Option, Some, unwrap_or, refl, ap, ◌∙◌}
 use Rattle.halfbrown.proofs.Common.{None, sym, ◌-◌, common_steps, get_or_default, slice_get-get_or, slice_get-map, IsEquivalence, IsDistinct, keys_of}
 use Rattle.halfbrown.proofs.Common.{values_of, lookup, option_map, index_of, swap_remove_at, set_value_at, length-set_value_at, value_of, holds_by, put, set_value}
-use Rattle.halfbrown.proofs.Common.{take_out_by}
+use Rattle.halfbrown.proofs.Common.{swap_out_by}
 use Rattle.std.proofs.Common.{sum}
 use Rattle.std.proofs.lemmas.List.{map_push}
 use Rattle.std.proofs.lemmas.List.Sums.{sum_by-cons, fold_push}
@@ -18,7 +18,7 @@ use Rattle.halfbrown.proofs.lemmas.pairs.Changes.{IsPermutation-swap_remove_at}
 -- ---- sums
 
 module _ {K V : Type 0} (f : V → ℕ) where
-  -- where a value is set, it counts in the place of the old one
+  -- if a value is set, it counts in the place of the old one
   pub sum_set : (test : K → Bool) (ps : List (K × V)) (w : V)
       → sum_by f (values_of (set_value test ps w)) + unwrap_or (option_map f (lookup test ps)) 0
       ≡ sum_by f (values_of ps) + cond (holds_by test ps) (f w) 0
@@ -34,7 +34,7 @@ module _ {K V : Type 0} (f : V → ℕ) where
   sum_put eq ps k v = grind (arith, common_steps, sum_set (eq k) ps v, sum_push ps k v)
 
   sum_taken_by : (test : K → Bool) (ps : List (K × V)) (index : Option ℕ) → index ≡ index_of test (keys_of ps)
-      → sum_by f (values_of (take_out_by test ps)) + unwrap_or (option_map f (lookup test ps)) 0 ≡ sum_by f (values_of ps)
+      → sum_by f (values_of (swap_out_by test ps)) + unwrap_or (option_map f (lookup test ps)) 0 ≡ sum_by f (values_of ps)
   sum_taken_by test ps None is = let absent = absent_of_index test ps is in grind (arith, common_steps, absent.take_is, absent.value)
   sum_taken_by test [] (Some i) is = absurd cc
   sum_taken_by test (p ∷ ps) (Some i) is =
@@ -48,12 +48,12 @@ module _ {K V : Type 0} (f : V → ℕ) where
 
   -- what is left once a pair is removed
   pub sum_taken : (test : K → Bool) (ps : List (K × V))
-      → sum_by f (values_of (take_out_by test ps)) + unwrap_or (option_map f (lookup test ps)) 0 ≡ sum_by f (values_of ps)
+      → sum_by f (values_of (swap_out_by test ps)) + unwrap_or (option_map f (lookup test ps)) 0 ≡ sum_by f (values_of ps)
   sum_taken test ps = sum_taken_by test ps (index_of test (keys_of ps)) refl
 
 module _ {K : Type 0} (test : K → Bool) (ps : List (K × ℕ)) where
   -- the same of numbers
-  pub total_taken : sum (values_of (take_out_by test ps)) + unwrap_or (lookup test ps) 0 ≡ sum (values_of ps)
+  pub total_taken : sum (values_of (swap_out_by test ps)) + unwrap_or (lookup test ps) 0 ≡ sum (values_of ps)
   total_taken = grind (arith, common_steps, sum_taken (λ n. n) test ps)
 
   -- none is more than their sum

@@ -6,7 +6,7 @@ use Rattle.std.proofs.iter.runs.Sources.{as_is, from_front}
 use Rattle.std.specs.Iterator.{Yields}
 use Rattle.half_store.specs.Capacity.{IsFormCapacity}
 use Rattle.std.specs.Iterator.Runs.{YieldsInOrder}
-use Rattle.halfbrown.specs.Drain.{DrainsSameMap, DrainSteps, rest}
+use Rattle.halfbrown.specs.Drain.{DrainsSameMap, DrainSteps, pairs_to_come}
 use Rattle.halfbrown.specs.declared.drain.Drain.{Drain}
 use Rattle.halfbrown.specs.Ghosts.{EqGhosts, HashGhosts, HasherGhosts, LimitGhosts}
 use Rattle.half_store.specs.declared.store.drain.IntoStore as taken
@@ -22,8 +22,8 @@ module _ {K V S L H : Type 0} {e : EqGhosts K} {h : HashGhosts K} {b : HasherGho
         t.allowed s.allowed i;
   }
 
-  pub runs : YieldsInOrder (DrainSteps {K = K} {V = V} {S = S} {L = L} {e = e} {h = h} {b = b} {l = l} {p = p}) rest
-  runs r t = as_is r (rest r.from) (from_front DrainSteps (λ y. y) rest (λ s t h. ap length h.0) (λ s x t h. h.0) r t)
+  pub runs : YieldsInOrder (DrainSteps {K = K} {V = V} {S = S} {L = L} {e = e} {h = h} {b = b} {l = l} {p = p}) pairs_to_come
+  runs r t = as_is r (pairs_to_come r.from) (from_front DrainSteps (λ y. y) pairs_to_come (λ s t h. ap length h.0) (λ s x t h. h.0) r t)
 
   pub keeps_along : (s : Drain K V S L (StoreState K V) H e h b l p) (ps : List (K × V)) (t : Drain K V S L (StoreState K V) H e h b l p)
       → Yields DrainSteps s ps t → DrainsSameMap s t

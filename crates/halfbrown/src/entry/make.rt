@@ -1,11 +1,11 @@
 //! Making the entry of a key, or of the pair at an index.
 //!
-//! A clause `unchanged` says that the map stays as it is where no entry is made, and else ends as the entry leaves it.
+//! A clause `unchanged` says that the map stays as it is if no entry is made, and otherwise ends as the entry leaves it.
 //! What stands between its first word and `self.entry`, the map when the call began, only names types.
 ghost use Rattle.std.specs.Prelude.{◌<◌, ◌↔◌, IfSome, IsSome, is_ok, length};
 ghost use Rattle.std.specs.Borrow.{sem};
 ghost use Rattle.halfbrown.specs.Costs.{IsInsertCost};
-ghost use Rattle.halfbrown.specs.Entry.{occupied, MakesEntry, RestsIfNoEntry, RestsIfRefused};
+ghost use Rattle.halfbrown.specs.Entry.{occupied, MakesEntryOrHandsBack, RestsIfNoEntry, RestsIfRefused};
 ghost use Rattle.halfbrown.specs.EntryView.{IsEntryAt};
 
 use super::{Entry, OccupiedEntry, VacantEntry};
@@ -16,10 +16,10 @@ use std::hash::Hash;
 
 impl<K: Eq + Hash, V, S: KeyHasher<K>, L: Limit> LimitedHashMap<K, V, S, L> {
     /// Returns the entry of a key, through which its pair is read, written, removed or added without another search.
-    /// Where an equal key is held, the given key is dropped. A vector that holds as many pairs as the limit becomes a
+    /// If an equal key is held, the given key is dropped. A vector that holds as many pairs as the limit becomes a
     /// table first, in both cases.
     ///
-    /// Fails only where more capacity is needed: for the switch, or for a new key where none is left. Then nothing
+    /// Fails only if more capacity is needed: for the switch, or for a new key if none is left. Then nothing
     /// changes, and the error has the key. No call on the entry fails.
     ///
     /// It costs what `insert` costs. No call on the entry hashes a key or compares two.
@@ -34,12 +34,12 @@ impl<K: Eq + Hash, V, S: KeyHasher<K>, L: Limit> LimitedHashMap<K, V, S, L> {
         K: Drop,
         ensures* unchanged { sem 𝓛
             (RestsIfRefused K.row V.row S.row L.row S.Hasher.row self.entry result) }
-        ensures makes { MakesEntry L.LIMIT K.eq self.entry key result }
+        ensures makes { MakesEntryOrHandsBack L.LIMIT K.eq self.entry key result }
     {
         uncounted!(self.entry_counted(key))
     }
 
-    /// `entry`, with its work counted: one search, one hash for each pair at a switch, and one insertion probe where a new
+    /// `entry`, with its work counted: one search, one hash for each pair at a switch, and one insertion probe if a new
     /// key makes the table grow.
     #[inline(always)]
     pub fn entry_counted(
@@ -51,7 +51,7 @@ impl<K: Eq + Hash, V, S: KeyHasher<K>, L: Limit> LimitedHashMap<K, V, S, L> {
         K: Drop,
         ensures* unchanged { sem 𝓛
             (RestsIfRefused K.row V.row S.row L.row S.Hasher.row self.entry result) }
-        ensures makes { MakesEntry L.LIMIT K.eq self.entry key result }
+        ensures makes { MakesEntryOrHandsBack L.LIMIT K.eq self.entry key result }
         ensures cost { IsInsertCost L.LIMIT K.eq S.hash self.old key (is_ok result)
             tally.old tally.new }
     {
@@ -70,7 +70,7 @@ impl<K: Eq + Hash, V, S: KeyHasher<K>, L: Limit> LimitedHashMap<K, V, S, L> {
         }
     }
 
-    /// Returns the entry of the pair at this index, or none where the index is not below `len`. Nothing is hashed or
+    /// Returns the entry of the pair at this index, or none if the index is not below `len`. Nothing is hashed or
     /// compared, and no memory is needed. In a table the bucket of the pair is probed for.
     ///
     /// ```
@@ -80,7 +80,7 @@ impl<K: Eq + Hash, V, S: KeyHasher<K>, L: Limit> LimitedHashMap<K, V, S, L> {
     /// assert_eq!(rt; ages.get(&2), Some(&42));
     /// ```
     #[inline(always)]
-    #[tactic(auto, unfolding(crate::specs::EntryView::with_value))]
+    #[tactic(auto, unfolding(crate::specs::EntryView::map_with_value))]
     pub fn get_index_entry(&mut self, index: usize) -> Option<OccupiedEntry<'_, K, V, S, L>>
         ensures* unchanged { sem 𝓛
             (RestsIfNoEntry K.row V.row S.row L.row S.Hasher.row self.entry result) }

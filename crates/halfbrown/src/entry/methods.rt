@@ -6,7 +6,7 @@ ghost use Rattle.std.specs.Prelude.{◌≡◌, true, false, None, Some, length, 
 ghost use Rattle.std.specs.Borrow.{sem, MutBor};
 ghost use Rattle.std.specs.Map.Calls.{ModifiesValue};
 ghost use Rattle.std.specs.Option.{UnwrapsOrElse};
-ghost use Rattle.halfbrown.specs.Entry.{view, EntryLends};
+ghost use Rattle.halfbrown.specs.Entry.{view, EntryLendsValue};
 ghost use Rattle.halfbrown.specs.EntryView.{is_occupied, map_of, entry_key, entry_pair};
 ghost use Rattle.halfbrown.specs.EntryView.{entry_value, ModifiesEntry};
 
@@ -17,7 +17,7 @@ use std::default::MadeWith;
 use std::hash::Hash;
 
 impl<'a, K: Eq + Hash, V, S: KeyHasher<K>, L: Limit> Entry<'a, K, V, S, L> {
-    /// Returns the stored key where it is held, else the key of the pair that can be added.
+    /// Returns the stored key if it is held, otherwise the key of the pair that can be added.
     ///
     /// ```
     /// assert_eq!(rt; *ages.entry(1)?.key(), 1);
@@ -32,7 +32,7 @@ impl<'a, K: Eq + Hash, V, S: KeyHasher<K>, L: Limit> Entry<'a, K, V, S, L> {
         }
     }
 
-    /// Adds the pair with this value where the key is not held. A value that is already held stays, and the given one
+    /// Adds the pair with this value if the key is not held. A value that is already held stays, and the given one
     /// is dropped. Returns the value that is held now, to be written for as long as the map is borrowed. It costs
     /// nothing.
     ///
@@ -45,7 +45,7 @@ impl<'a, K: Eq + Hash, V, S: KeyHasher<K>, L: Limit> Entry<'a, K, V, S, L> {
     where
         V: Drop,
         ensures* writes_back { sem 𝓛
-            (EntryLends K.row V.row S.row L.row S.Hasher.row self.entry result) }
+            (EntryLendsValue K.row V.row S.row L.row S.Hasher.row self.entry result) }
         ensures value { result.now ≡ unwrap_or (entry_value (view self.entry)) default }
     {
         match self {
@@ -54,7 +54,7 @@ impl<'a, K: Eq + Hash, V, S: KeyHasher<K>, L: Limit> Entry<'a, K, V, S, L> {
         }
     }
 
-    /// `or_insert` with a value that is made only where the key is not held.
+    /// `or_insert` with a value that is made only if the key is not held.
     ///
     /// ```
     /// assert_eq!(rt; *ages.entry(3)?.or_insert_with(|| 5), 5);
@@ -63,7 +63,7 @@ impl<'a, K: Eq + Hash, V, S: KeyHasher<K>, L: Limit> Entry<'a, K, V, S, L> {
     pub fn or_insert_with<F: FnOnce() -> V>(self, default: F) -> &'a mut V
         requires { entry_value (view self) ≡ None → F.pre default }
         ensures* writes_back { sem 𝓛
-            (EntryLends K.row V.row S.row L.row S.Hasher.row self.entry result) }
+            (EntryLendsValue K.row V.row S.row L.row S.Hasher.row self.entry result) }
         ensures value { UnwrapsOrElse (entry_value (view self.entry)) (F.post default) result.now }
     {
         match self {
@@ -83,7 +83,7 @@ impl<'a, K: Eq + Hash, V, S: KeyHasher<K>, L: Limit> Entry<'a, K, V, S, L> {
     where
         V: MadeWith<Global>,
         ensures* writes_back { sem 𝓛
-            (EntryLends K.row V.row S.row L.row S.Hasher.row self.entry result) }
+            (EntryLendsValue K.row V.row S.row L.row S.Hasher.row self.entry result) }
         ensures value { UnwrapsOrElse (entry_value (view self.entry)) V.is_made_with result.now }
     {
         match self {
@@ -114,7 +114,7 @@ impl<'a, K: Eq + Hash, V, S: KeyHasher<K>, L: Limit> Entry<'a, K, V, S, L> {
         }
     }
 
-    /// Changes the value where the key is held, and returns the entry. Where it is not held `f` is not called.
+    /// Changes the value if the key is held, and returns the entry. If it is not held `f` is not called.
     ///
     /// ```
     /// ages.entry(1)?.and_modify(|age| *age = 37).or_insert(0);

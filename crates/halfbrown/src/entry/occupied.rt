@@ -8,8 +8,8 @@
 ghost use Rattle.std.specs.Prelude.{◌≡◌, ◌<◌, true, Some, IfSome, length, slice_get};
 ghost use Rattle.std.specs.Borrow.{sem};
 ghost use Rattle.half_store.specs.PairLists.{swap_remove_at};
-ghost use Rattle.halfbrown.specs.Entry.{Occupied, occupied, EntryLends, OccupiedLends, OccupiedRests, with_entry_value};
-ghost use Rattle.halfbrown.specs.EntryView.{entry_key, entry_pair, entry_value, map_of, pairs_without, IsWritten, IsRekeyed};
+ghost use Rattle.halfbrown.specs.Entry.{Occupied, occupied, EntryLendsValue, OccupiedLends, OccupiedRests, with_entry_value};
+ghost use Rattle.halfbrown.specs.EntryView.{entry_key, entry_pair, entry_value, map_of, pairs_without, IsWritten, HasEntryKeyReplaced};
 ghost use Rattle.halfbrown.specs.State.{IsValid, WithPairs};
 ghost use Rattle.halfbrown.specs.Updates.{HasKeyReplaced};
 
@@ -45,7 +45,7 @@ impl<'a, K: Eq + Hash, V, S: KeyHasher<K>, L: Limit> OccupiedEntry<'a, K, V, S, 
         self.key()
     }
 
-    /// Returns the stored key, for as long as the map is borrowed. No clause says what the map is afterwards: where a proof
+    /// Returns the stored key, for as long as the map is borrowed. No clause says what the map is afterwards: if a proof
     /// needs that, call `key`.
     ///
     /// ```
@@ -110,10 +110,10 @@ impl<'a, K: Eq + Hash, V, S: KeyHasher<K>, L: Limit> OccupiedEntry<'a, K, V, S, 
     /// assert_eq!(rt; ages.get(&1), Some(&37));
     /// ```
     #[inline(always)]
-    #[tactic(auto, unfolding(crate::specs::EntryView::with_value))]
+    #[tactic(auto, unfolding(crate::specs::EntryView::map_with_value))]
     pub fn into_mut(self) -> &'a mut V
         ensures* writes_back { sem 𝓛
-            (EntryLends K.row V.row S.row L.row S.Hasher.row (Occupied self.entry) result) }
+            (EntryLendsValue K.row V.row S.row L.row S.Hasher.row (Occupied self.entry) result) }
         ensures value { entry_value (occupied self.entry) ≡ Some result.now }
     {
         let index = self.index;
@@ -153,7 +153,7 @@ impl<'a, K: Eq + Hash, V, S: KeyHasher<K>, L: Limit> OccupiedEntry<'a, K, V, S, 
     }
 
     /// Returns the stored key, and the value to be written, for as long as the map is borrowed. No clause says what the map
-    /// is afterwards: where a proof needs that, call `into_mut`.
+    /// is afterwards: if a proof needs that, call `into_mut`.
     ///
     /// ```
     /// let (_, age) = entry.into_key_value();
@@ -181,7 +181,7 @@ impl<'a, K: Eq + Hash, V, S: KeyHasher<K>, L: Limit> OccupiedEntry<'a, K, V, S, 
         ensures valid { IsValid L.LIMIT K.eq (map_of (occupied self.new)) }
     {
         let old = std::mem::replace(self.get_mut(), value);
-        // Tells the prover what holds of every map: `len` states it of the one that it reads.
+        // `len` tells the prover `IsValid` of the map.
         prove!(self.index < self.map.len());
         old
     }
@@ -195,7 +195,7 @@ impl<'a, K: Eq + Hash, V, S: KeyHasher<K>, L: Limit> OccupiedEntry<'a, K, V, S, 
     pub fn insert_key(&mut self, key: K) -> K
         requires { IfSome (entry_key (occupied self.old)) (λ k. K.eq key k ≡ true) }
         ensures old { entry_key (occupied self.old) ≡ Some result }
-        ensures new { IsRekeyed (occupied self.old) key (occupied self.new) }
+        ensures new { HasEntryKeyReplaced (occupied self.old) key (occupied self.new) }
         ensures replaced { HasKeyReplaced K.eq (map_of (occupied self.old)).pairs key
             (map_of (occupied self.new)).pairs }
         ensures valid { IsValid L.LIMIT K.eq (map_of (occupied self.new)) }

@@ -15,7 +15,7 @@ impl<'a, K: Eq + Hash, V, S: KeyHasher<K>, L: Limit> OccupiedEntry<'a, K, V, S, 
     /// Passes the stored key and its value to `f`, and stores the value that `f` returns. In a vector the pair then
     /// goes last, and the last pair takes its index. In a table it keeps its index.
     ///
-    /// Where `f` returns `None` the pair is removed, and the last pair takes its index. The entry that is returned is
+    /// If `f` returns `None` the pair is removed, and the last pair takes its index. The entry that is returned is
     /// vacant and has the stored key, and an insertion through it needs no more capacity. In a table that costs one
     /// insertion probe, since a removal moves the empty buckets.
     ///
@@ -36,7 +36,7 @@ impl<'a, K: Eq + Hash, V, S: KeyHasher<K>, L: Limit> OccupiedEntry<'a, K, V, S, 
         uncounted!(self.replace_entry_with_counted(f))
     }
 
-    /// `replace_entry_with`, with its work counted: one insertion probe where the pair is removed from a table.
+    /// `replace_entry_with`, with its work counted: one insertion probe if the pair is removed from a table.
     #[inline]
     pub fn replace_entry_with_counted<F: FnOnce(&K, V) -> Option<V>>(
         self,

@@ -7,7 +7,7 @@
 //! A clause `writes_back` says what the map is once the borrow that the call returns has ended.
 ghost use Rattle.std.specs.Prelude.{◌≡◌, Some, length};
 ghost use Rattle.std.specs.Borrow.{sem};
-ghost use Rattle.halfbrown.specs.Entry.{Vacant, vacant, EntryLends};
+ghost use Rattle.halfbrown.specs.Entry.{Vacant, vacant, EntryLendsValue};
 ghost use Rattle.halfbrown.specs.EntryView.{entry_key, map_of};
 
 use super::VacantEntry;
@@ -15,7 +15,7 @@ use crate::{KeyHasher, Limit};
 use std::hash::Hash;
 
 impl<'a, K: Eq + Hash, V, S: KeyHasher<K>, L: Limit> VacantEntry<'a, K, V, S, L> {
-    /// Returns the key of the pair that can be added: the given one, or the stored one where `replace_entry_with` has
+    /// Returns the key of the pair that can be added: the given one, or the stored one if `replace_entry_with` has
     /// removed its pair.
     ///
     /// ```
@@ -69,7 +69,7 @@ impl<'a, K: Eq + Hash, V, S: KeyHasher<K>, L: Limit> VacantEntry<'a, K, V, S, L>
     #[inline(always)]
     pub fn insert(self, value: V) -> &'a mut V
         ensures* writes_back { sem 𝓛
-            (EntryLends K.row V.row S.row L.row S.Hasher.row (Vacant self.entry) result) }
+            (EntryLendsValue K.row V.row S.row L.row S.Hasher.row (Vacant self.entry) result) }
         ensures value { result.now ≡ value }
     {
         let VacantEntry { map, key, vacancy } = self;

@@ -9,7 +9,7 @@ ghost use Rattle.std.specs.Option.{option_copied_mut, option_map};
 ghost use Rattle.half_store.specs.PairLists.{index_of};
 ghost use Rattle.halfbrown.specs.Costs.{IsLookupCost};
 ghost use Rattle.halfbrown.specs.Lookup.{FindsIndex};
-ghost use Rattle.halfbrown.specs.Updates.{RemovesAt};
+ghost use Rattle.halfbrown.specs.Updates.{SwapRemovesAt};
 ghost use Rattle.halfbrown.specs.State.{IsValid};
 
 use super::LimitedHashMap;
@@ -20,7 +20,7 @@ use std::hash::Hash;
 impl<K: Eq + Hash, V, S: KeyHasher<K>, L: Limit> LimitedHashMap<K, V, S, L> {
     ghost use Rattle.halfbrown.specs.Lending.{LendsValueIfWithin};
 
-    /// Returns the pair at this index in the order of the pairs, or none where the index is not below `len`. Nothing is
+    /// Returns the pair at this index in the order of the pairs, or none if the index is not below `len`. Nothing is
     /// hashed or compared.
     ///
     /// ```
@@ -39,7 +39,7 @@ impl<K: Eq + Hash, V, S: KeyHasher<K>, L: Limit> LimitedHashMap<K, V, S, L> {
         }
     }
 
-    /// Returns the value of the pair at this index, to be written, or none where the index is not below `len`. Nothing
+    /// Returns the value of the pair at this index, to be written, or none if the index is not below `len`. Nothing
     /// is hashed or compared.
     ///
     /// ```
@@ -63,7 +63,7 @@ impl<K: Eq + Hash, V, S: KeyHasher<K>, L: Limit> LimitedHashMap<K, V, S, L> {
         }
     }
 
-    /// Returns the first pair, or none where the map is empty. Nothing is hashed or compared.
+    /// Returns the first pair, or none if the map is empty. Nothing is hashed or compared.
     ///
     /// ```
     /// assert_eq!(rt; ages.first(), Some((&1, &36)));
@@ -76,7 +76,7 @@ impl<K: Eq + Hash, V, S: KeyHasher<K>, L: Limit> LimitedHashMap<K, V, S, L> {
         self.get_index(0)
     }
 
-    /// Returns the last pair, or none where the map is empty. Nothing is hashed or compared.
+    /// Returns the last pair, or none if the map is empty. Nothing is hashed or compared.
     ///
     /// ```
     /// assert_eq!(rt; ages.last(), Some((&2, &41)));
@@ -90,7 +90,7 @@ impl<K: Eq + Hash, V, S: KeyHasher<K>, L: Limit> LimitedHashMap<K, V, S, L> {
         self.get_index(self.len().saturating_sub(1))
     }
 
-    /// Returns the value of the first pair, to be written, or none where the map is empty. Nothing is hashed or compared.
+    /// Returns the value of the first pair, to be written, or none if the map is empty. Nothing is hashed or compared.
     ///
     /// ```
     /// if let Some(age) = ages.first_mut() {
@@ -109,7 +109,7 @@ impl<K: Eq + Hash, V, S: KeyHasher<K>, L: Limit> LimitedHashMap<K, V, S, L> {
         self.get_index_mut(0)
     }
 
-    /// Returns the value of the last pair, to be written, or none where the map is empty. Nothing is hashed or compared.
+    /// Returns the value of the last pair, to be written, or none if the map is empty. Nothing is hashed or compared.
     ///
     /// ```
     /// if let Some(age) = ages.last_mut() {
@@ -130,7 +130,7 @@ impl<K: Eq + Hash, V, S: KeyHasher<K>, L: Limit> LimitedHashMap<K, V, S, L> {
         self.get_index_mut(index)
     }
 
-    /// Returns the index of the pair whose key equals this one, or none where no such key is held. It costs one search.
+    /// Returns the index of the pair whose key equals this one, or none if no such key is held. It costs one search.
     ///
     /// ```
     /// assert_eq!(rt; ages.get_index_of(&2), Some(1));
@@ -158,7 +158,7 @@ impl<K: Eq + Hash, V, S: KeyHasher<K>, L: Limit> LimitedHashMap<K, V, S, L> {
         }
     }
 
-    /// Removes the pair at this index, and returns it. The last pair takes its index. Where the index is not below
+    /// Removes the pair at this index, and returns it. The last pair takes its index. If the index is not below
     /// `len`, nothing changes. The form and the capacity stay. Nothing is hashed or compared, and no memory is needed. In a
     /// table the bucket of the pair is probed for, and that of the last pair if it is another.
     ///
@@ -168,7 +168,7 @@ impl<K: Eq + Hash, V, S: KeyHasher<K>, L: Limit> LimitedHashMap<K, V, S, L> {
     /// ```
     #[inline]
     pub fn swap_remove_index(&mut self, index: usize) -> Option<(K, V)>
-        ensures { RemovesAt L.LIMIT K.eq self.old index result self.new }
+        ensures { SwapRemovesAt L.LIMIT K.eq self.old index result self.new }
     {
         if index < self.len() {
             let found = self.place_of(index);
@@ -178,7 +178,7 @@ impl<K: Eq + Hash, V, S: KeyHasher<K>, L: Limit> LimitedHashMap<K, V, S, L> {
         }
     }
 
-    /// Removes the last pair, and returns it, or none where the map is empty. The form and the capacity stay. Nothing
+    /// Removes the last pair, and returns it, or none if the map is empty. The form and the capacity stay. Nothing
     /// is hashed or compared, and no memory is needed. In a table the bucket of the pair is probed for.
     ///
     /// ```
@@ -187,7 +187,7 @@ impl<K: Eq + Hash, V, S: KeyHasher<K>, L: Limit> LimitedHashMap<K, V, S, L> {
     #[inline]
     pub fn pop(&mut self) -> Option<(K, V)>
         ensures pairs { self.old.pairs ≡ self.new.pairs ++ option_to_list result }
-        ensures removes { RemovesAt L.LIMIT K.eq self.old (length self.old.pairs - 1)
+        ensures removes { SwapRemovesAt L.LIMIT K.eq self.old (length self.old.pairs - 1)
             result self.new }
     {
         self.swap_remove_index(self.len().saturating_sub(1))

@@ -1,5 +1,5 @@
 //! Growing and shrinking the capacity.
-ghost use Rattle.halfbrown.specs.Growth.{Reserves, Shrinks};
+ghost use Rattle.halfbrown.specs.Growth.{ReservesOrRefuses, ShrinksOrStays};
 ghost use Rattle.halfbrown.specs.State.{IsValid};
 
 use super::LimitedHashMap;
@@ -12,9 +12,9 @@ impl<K: Eq + Hash, V, S: KeyHasher<K>, L: Limit> LimitedHashMap<K, V, S, L> {
     /// since an insertion beyond that makes a table, which needs memory anyway. The capacity never falls. Nothing is
     /// hashed.
     ///
-    /// Where the capacity is not enough yet, a table gets the least of its series that is enough. A vector gets twice
-    /// what it had, but at least eight and what is needed, and at most the limit. Fails with `Size` where capacity for
-    /// more than 2^60 pairs is needed, and with `Memory` where memory is refused. On error nothing changes.
+    /// If the capacity is not enough yet, a table gets the least of its series that is enough. A vector gets twice
+    /// what it had, but at least eight and what is needed, and at most the limit. Fails with `Size` if capacity for
+    /// more than 2^60 pairs is needed, and with `Memory` if memory is refused. On error nothing changes.
     ///
     /// ```
     /// ages.reserve(20)?; // the next twenty insertions need no more memory
@@ -22,7 +22,7 @@ impl<K: Eq + Hash, V, S: KeyHasher<K>, L: Limit> LimitedHashMap<K, V, S, L> {
     /// ```
     #[inline(never)]
     pub fn reserve(&mut self, additional: usize) -> Result<(), Refusal>
-        ensures { Reserves L.LIMIT K.eq self.old additional result self.new }
+        ensures { ReservesOrRefuses L.LIMIT K.eq self.old additional result self.new }
     {
         self.store.reserve(additional, L::LIMIT)
     }
@@ -31,7 +31,7 @@ impl<K: Eq + Hash, V, S: KeyHasher<K>, L: Limit> LimitedHashMap<K, V, S, L> {
     /// that the pairs fit in. For a table that is the least of its series. The pairs keep their order. Nothing is hashed or
     /// compared.
     ///
-    /// Smaller columns and a smaller table need memory. Where that is refused nothing changes: a table stays one. A map
+    /// Smaller columns and a smaller table need memory. If that is refused nothing changes: a table stays one. A map
     /// with no pairs needs none, and has capacity 0 afterwards. A vector whose capacity is its length stays as it is.
     ///
     /// ```
@@ -42,10 +42,10 @@ impl<K: Eq + Hash, V, S: KeyHasher<K>, L: Limit> LimitedHashMap<K, V, S, L> {
     /// assert_eq!(rt; ages.capacity(), 1);
     /// ```
     pub fn shrink_to_fit(&mut self)
-        ensures after { Shrinks L.LIMIT self.old self.new }
+        ensures after { ShrinksOrStays L.LIMIT self.old self.new }
         ensures valid { IsValid L.LIMIT K.eq self.new }
     {
-        // Where memory is refused, nothing has changed.
+        // If memory is refused, nothing has changed.
         let _ = self.store.shrink_to_fit(L::LIMIT);
     }
 }

@@ -17,7 +17,7 @@ impl<K: Eq + Hash, V, S: KeyHasher<K>, L: Limit> LimitedHashMap<K, V, S, L> {
     /// of a vector has no capacity to spare.
     ///
     /// A clone of a key must equal the key, and a clone of the builder must hash as the builder does. It fails only with
-    /// `Memory`: where memory is refused here, or to a clone of a key, of a value or of the builder.
+    /// `Memory`: if memory is refused here, or to a clone of a key, of a value or of the builder.
     ///
     /// ```
     /// let mut copy = ages.clone()?;

@@ -1,10 +1,10 @@
 //! Maps made from items.
 ghost use Rattle.std.specs.Prelude.{◌≡◌, ◌<◌, ◌⊎◌, ℕ, ⊤, true, List, IfOk, IfErr, OnOk, OnErr};
 ghost use Rattle.std.specs.Iterator.{IsFinite, IsFiniteIterable, Drains, DrainsIf, ExtendsWithItems};
-ghost use Rattle.halfbrown.specs.FromIter.{Gives, AreFirst, Extends, ExtendsIter, RefusedExtendIter};
-ghost use Rattle.halfbrown.specs.FromIter.{Collects, CollectsIter, RefusedCollect, RefusedCollectIter};
-ghost use Rattle.halfbrown.specs.FromIter.{insertions_cost, refused_cost, collection_cost, refused_collection_cost};
-ghost use Rattle.halfbrown.specs.CostRanges.{GrewBy};
+ghost use Rattle.halfbrown.specs.Collect.{Gives, AreFirst, Extends, InsertsAllOfIter, InsertsUntilRefused};
+ghost use Rattle.halfbrown.specs.Collect.{Collects, CollectsIter, CollectRefused, CollectIterRefused};
+ghost use Rattle.halfbrown.specs.Collect.{insertions_cost, refused_cost, collection_cost, refused_collection_cost};
+ghost use Rattle.halfbrown.specs.CostRanges.{TallyGrewBy};
 ghost use Rattle.halfbrown.specs.State.{IsValid};
 
 use super::LimitedHashMap;
@@ -21,11 +21,11 @@ impl<K: Eq + Hash + Drop, V: Drop, S: KeyHasher<K> + Default + Drop, L: Limit> L
 > {
     /// Returns a map of these items, with the default of the builder's type.
     ///
-    /// It is made with capacity for the items' lower size hint, so it is a table where that is more than the limit. Then
+    /// It is made with capacity for the items' lower size hint, so it is a table if that is more than the limit. Then
     /// each item is inserted, in order: of equal keys the first stays, with the last value. The clauses do not say which
     /// hint that is, and so neither the form nor the capacity.
     ///
-    /// The items must end. Fails where `with_capacity` or `insert` would, and then drops what was collected, the
+    /// The items must end. Fails if `with_capacity` or `insert` would, and then drops what was collected, the
     /// refused pair and the remaining items. It costs what the insertions cost.
     ///
     /// ```
@@ -41,7 +41,7 @@ impl<K: Eq + Hash + Drop, V: Drop, S: KeyHasher<K> + Default + Drop, L: Limit> L
             I.IntoIter.remaining items }
         ensures collected { IfOk result (CollectsIter I.into_iter_gives I.IntoIter.next_gives
             L.LIMIT K.eq I.IntoIter.remaining S.is_default items) }
-        ensures refused { IfErr result (RefusedCollectIter I.into_iter_gives
+        ensures refused { IfErr result (CollectIterRefused I.into_iter_gives
             I.IntoIter.next_gives L.LIMIT K.eq I.IntoIter.remaining S.is_default items) }
         ensures valid { IfOk result (IsValid L.LIMIT K.eq) }
     {
@@ -58,10 +58,10 @@ impl<K: Eq + Hash + Drop, V: Drop, S: KeyHasher<K> + Default + Drop, L: Limit> L
             I.IntoIter.remaining items }
         ensures collected { IfOk result (λ m. (made : CollectsIter I.into_iter_gives
             I.IntoIter.next_gives L.LIMIT K.eq I.IntoIter.remaining S.is_default items m)
-            × GrewBy (collection_cost L.LIMIT K.eq S.hash made.collection) tally.old tally.new) }
-        ensures refused { IfErr result (λ why. (made : RefusedCollectIter I.into_iter_gives
+            × TallyGrewBy (collection_cost L.LIMIT K.eq S.hash made.collection) tally.old tally.new) }
+        ensures refused { IfErr result (λ why. (made : CollectIterRefused I.into_iter_gives
             I.IntoIter.next_gives L.LIMIT K.eq I.IntoIter.remaining S.is_default items why)
-            × GrewBy (refused_collection_cost L.LIMIT K.eq S.hash made.refused)
+            × TallyGrewBy (refused_collection_cost L.LIMIT K.eq S.hash made.refused)
             tally.old tally.new) }
         // A vector has hashed nothing.
         ensures nothing_hashed { IfOk result
@@ -76,7 +76,7 @@ impl<K: Eq + Hash + Drop, V: Drop, S: KeyHasher<K> + Default + Drop, L: Limit> L
     /// Returns a map of these pairs, with the default of the builder's type, as `from_iter` makes it. `hashmap!` calls it.
     ///
     /// The map is made with capacity for all of them. The call costs what their insertions cost. The pairs first go into a
-    /// vector of their own, so it also fails with `Memory` where that is refused. For no pairs it needs no memory, and does
+    /// vector of their own, so it also fails with `Memory` if that is refused. For no pairs it needs no memory, and does
     /// not fail.
     ///
     /// ```
@@ -86,7 +86,7 @@ impl<K: Eq + Hash + Drop, V: Drop, S: KeyHasher<K> + Default + Drop, L: Limit> L
     pub fn from_array<const N: usize>(alloc: Global, pairs: [(K, V); N]) -> Result<Self, Refusal>
         ensures collected { IfOk result (Collects L.LIMIT K.eq S.is_default N pairs) }
         ensures refused { IfErr result (λ why. ((why ≡ Refusal.Memory) × (0 < N))
-            ⊎ RefusedCollect L.LIMIT K.eq S.is_default N (AreFirst pairs) why) }
+            ⊎ CollectRefused L.LIMIT K.eq S.is_default N (AreFirst pairs) why) }
         ensures valid { IfOk result (IsValid L.LIMIT K.eq) }
     {
         // What `into_iter` of an array requires depends on the size of a pair, which is not known. So the pairs go through a
@@ -106,10 +106,10 @@ impl<K: Eq + Hash + Drop, V: Drop, S: KeyHasher<K> + Default + Drop, L: Limit> L
         requires ends { IsFinite (I.remaining items) }
         ensures collected { IfOk result (λ m. (gave : List (K × V)) × Drains I.next_gives items gave
             × (made : Collects L.LIMIT K.eq S.is_default capacity gave m)
-            × GrewBy (collection_cost L.LIMIT K.eq S.hash made) tally.old tally.new) }
-        ensures refused { IfErr result (λ why. (made : RefusedCollect L.LIMIT K.eq S.is_default
+            × TallyGrewBy (collection_cost L.LIMIT K.eq S.hash made) tally.old tally.new) }
+        ensures refused { IfErr result (λ why. (made : CollectRefused L.LIMIT K.eq S.is_default
             capacity (Gives I.next_gives items) why)
-            × GrewBy (refused_collection_cost L.LIMIT K.eq S.hash made) tally.old tally.new) }
+            × TallyGrewBy (refused_collection_cost L.LIMIT K.eq S.hash made) tally.old tally.new) }
         ensures nothing_hashed { IfOk result
             (λ m. m.is_vec ≡ true → tally.new.asked ≡ tally.old.asked) }
         ensures valid { IfOk result (IsValid L.LIMIT K.eq) }
@@ -123,7 +123,7 @@ impl<K: Eq + Hash + Drop, V: Drop, S: KeyHasher<K> + Default + Drop, L: Limit> L
 impl<K: Eq + Hash + Drop, V: Drop, S: KeyHasher<K>, L: Limit> LimitedHashMap<K, V, S, L> {
     /// Inserts each item, in order. New keys come last; a held key stays where it is, with the last value.
     ///
-    /// The items must end. Fails where `insert` would, and then the items before the refused one stay, and it and the
+    /// The items must end. Fails if `insert` would, and then the items before the refused one stay, and it and the
     /// remaining items are dropped. It costs what the insertions cost, and makes no capacity in advance.
     ///
     /// ```
@@ -134,9 +134,9 @@ impl<K: Eq + Hash + Drop, V: Drop, S: KeyHasher<K>, L: Limit> LimitedHashMap<K, 
     pub fn extend<I: IntoIterator<Item = (K, V)>>(&mut self, items: I) -> Result<(), Refusal>
         requires { IsFiniteIterable I.into_iter_gives I.IntoIter.can_next
             I.IntoIter.remaining items }
-        ensures extended { OnOk result (ExtendsIter I.into_iter_gives I.IntoIter.next_gives
+        ensures extended { OnOk result (InsertsAllOfIter I.into_iter_gives I.IntoIter.next_gives
             L.LIMIT K.eq items self.old self.new) }
-        ensures refused { IfErr result (RefusedExtendIter I.into_iter_gives I.IntoIter.next_gives
+        ensures refused { IfErr result (InsertsUntilRefused I.into_iter_gives I.IntoIter.next_gives
             L.LIMIT K.eq items self.old self.new) }
     {
         uncounted!(self.extend_counted(items))
@@ -150,12 +150,12 @@ impl<K: Eq + Hash + Drop, V: Drop, S: KeyHasher<K>, L: Limit> LimitedHashMap<K, 
     ) -> Result<(), Refusal>
         requires { IsFiniteIterable I.into_iter_gives I.IntoIter.can_next
             I.IntoIter.remaining items }
-        ensures extended { OnOk result ((made : ExtendsIter I.into_iter_gives I.IntoIter.next_gives
-            L.LIMIT K.eq items self.old self.new) × GrewBy (insertions_cost L.LIMIT K.eq S.hash
+        ensures extended { OnOk result ((made : InsertsAllOfIter I.into_iter_gives I.IntoIter.next_gives
+            L.LIMIT K.eq items self.old self.new) × TallyGrewBy (insertions_cost L.LIMIT K.eq S.hash
             self.old made.gave self.new made.extends.inserted) tally.old tally.new) }
-        ensures refused { IfErr result (λ why. (made : RefusedExtendIter I.into_iter_gives
+        ensures refused { IfErr result (λ why. (made : InsertsUntilRefused I.into_iter_gives
             I.IntoIter.next_gives L.LIMIT K.eq items self.old self.new why)
-            × GrewBy (refused_cost L.LIMIT K.eq S.hash made.insertion) tally.old tally.new) }
+            × TallyGrewBy (refused_cost L.LIMIT K.eq S.hash made.insertion) tally.old tally.new) }
     {
         for (key, value) in items {
             self.insert_counted(key, value, tally)?;
@@ -183,7 +183,7 @@ impl<K: Eq + Hash + Drop, V: Drop, S: KeyHasher<K> + Default + Drop, L: Limit> F
             × ((hint : ℕ) × Collects L.LIMIT K.eq S.is_default hint gave m)) }
         ensures collected { IfOk result (CollectsIter I.into_iter_gives I.IntoIter.next_gives
             L.LIMIT K.eq I.IntoIter.remaining S.is_default items) }
-        ensures refused { OnErr result ((why : Refusal) × RefusedCollectIter I.into_iter_gives
+        ensures refused { OnErr result ((why : Refusal) × CollectIterRefused I.into_iter_gives
             I.IntoIter.next_gives L.LIMIT K.eq I.IntoIter.remaining S.is_default items why) }
     {
         match LimitedHashMap::from_iter(alloc, items) {
@@ -203,7 +203,7 @@ impl<K: Eq + Hash + Drop, V: Drop, S: KeyHasher<K>, L: Limit> Extend<(K, V)>
             I.IntoIter.remaining items }
         ensures ran { ExtendsWithItems I.into_iter_gives I.IntoIter.next_gives
             (Extends L.LIMIT K.eq) items self.old self.new result }
-        ensures refused { OnErr result ((why : Refusal) × RefusedExtendIter I.into_iter_gives
+        ensures refused { OnErr result ((why : Refusal) × InsertsUntilRefused I.into_iter_gives
             I.IntoIter.next_gives L.LIMIT K.eq items self.old self.new why) }
     {
         match LimitedHashMap::extend(self, items) {

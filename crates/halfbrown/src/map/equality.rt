@@ -2,7 +2,7 @@
 ghost use Rattle.std.specs.Prelude.{◌≡◌};
 ghost use Rattle.std.specs.List.{list_all};
 ghost use Rattle.halfbrown.specs.Costs.{AreSearchCosts};
-ghost use Rattle.halfbrown.specs.Equality.{same_pairs, holds_pair, keys_while_same, searched_keys, equal_maps_per};
+ghost use Rattle.halfbrown.specs.Equality.{same_pairs, holds_equal_pair, keys_while_same, searched_keys, equal_maps_per};
 ghost use Rattle.halfbrown.specs.Equality.{equal_maps_equiv};
 
 use super::LimitedHashMap;
@@ -14,7 +14,7 @@ impl<K: Eq + Hash, V: PartialEq, S: KeyHasher<K>, L: Limit> LimitedHashMap<K, V,
     /// Returns whether both maps hold equal keys with equal values, in any order. The other map may have another limit,
     /// another builder and another form.
     ///
-    /// Where the lengths differ it costs nothing. Else it costs at most one search in the other map for each pair of
+    /// If the lengths differ it costs nothing. Otherwise it costs at most one search in the other map for each pair of
     /// this one. The crate `half_laws` says what follows from the answer, and bounds its cost.
     ///
     /// ```
@@ -32,7 +32,7 @@ impl<K: Eq + Hash, V: PartialEq, S: KeyHasher<K>, L: Limit> LimitedHashMap<K, V,
         uncounted!(self.same_pairs_counted(other))
     }
 
-    /// `same_pairs`, with its work counted: nothing where the lengths differ, else one search in the other map for each
+    /// `same_pairs`, with its work counted: nothing if the lengths differ, otherwise one search in the other map for each
     /// pair of this one, in order, up to the first that is not held there. Comparisons of values are not counted.
     pub fn same_pairs_counted<S2: KeyHasher<K>, M: Limit>(
         &self,
@@ -56,7 +56,7 @@ impl<K: Eq + Hash, V: PartialEq, S: KeyHasher<K>, L: Limit> LimitedHashMap<K, V,
         other: &LimitedHashMap<K, V, S2, M>,
         tally: &mut Tally,
     ) -> bool
-        ensures held { result ≡ list_all (holds_pair K.eq V.eq other.now.pairs) self.now.pairs }
+        ensures held { result ≡ list_all (holds_equal_pair K.eq V.eq other.now.pairs) self.now.pairs }
         ensures cost { AreSearchCosts K.eq S2.hash other.now
             (keys_while_same K.eq V.eq self.now.pairs other.now.pairs) tally.old tally.new }
     {

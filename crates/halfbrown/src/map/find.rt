@@ -4,7 +4,7 @@ ghost use Rattle.std.specs.Fn.{FnReturnsAt};
 ghost use Rattle.std.specs.Map.{keys_of};
 ghost use Rattle.half_store.specs.Search.{CallableOnKeys, found_index};
 ghost use Rattle.half_store.specs.Work.{asked_more, first_match_cost};
-ghost use Rattle.halfbrown.specs.Costs.{IsLookupCost, IsHashedLookupCost, IsSearchCost, search_asked};
+ghost use Rattle.halfbrown.specs.Costs.{IsLookupCost, IsLookupCostByHash, IsSearchCost, search_asked};
 ghost use Rattle.halfbrown.specs.Lookup.{KeySearch, MatchSearch};
 ghost use Rattle.halfbrown.specs.State.{IsValid};
 
@@ -40,7 +40,7 @@ impl<K: Eq + Hash, V, S: KeyHasher<K>, L: Limit> LimitedHashMap<K, V, S, L> {
             → hash ≡ S.hash_writes self.now.builder (Q.hash_input key) }
         ensures found { KeySearch (Q.equivalent key)
             (S.hash_writes self.now.builder (Q.hash_input key)) self.now result }
-        ensures cost { IsHashedLookupCost S.KeyHasher Q.hash_input Q.equivalent key self.now
+        ensures cost { IsLookupCostByHash S.KeyHasher Q.hash_input Q.equivalent key self.now
             tally.old tally.new }
         ensures valid { IsValid L.LIMIT K.eq self.now }
     {

@@ -93,8 +93,8 @@ impl<K: Eq + Hash, V, S: KeyHasher<K>, L: Limit> LimitedHashMap<K, V, S, L> {
         ensures* writes_back { sem 𝓛 (LendsValueIfHeld K.row V.row S.row L.row S.Hasher.row K.Hash
             S.KeyHasher L.Limit self.entry (Q.equivalent key) result) }
         ensures value { option_copied_mut result ≡ lookup (Q.equivalent key) self.old.pairs }
-        ensures written { OnSome result ((written : V) → HasSetBy K.eq (Q.equivalent key)
-            self.old.pairs written (set_value (Q.equivalent key) self.old.pairs written)) }
+        ensures once_written { OnSome result ((last : V) → HasSetBy K.eq (Q.equivalent key)
+            self.old.pairs last (set_value (Q.equivalent key) self.old.pairs last)) }
     {
         uncounted!(self.get_mut_counted(key))
     }
@@ -105,8 +105,8 @@ impl<K: Eq + Hash, V, S: KeyHasher<K>, L: Limit> LimitedHashMap<K, V, S, L> {
         ensures* writes_back { sem 𝓛 (LendsValueIfHeld K.row V.row S.row L.row S.Hasher.row K.Hash
             S.KeyHasher L.Limit self.entry (Q.equivalent key) result) }
         ensures value { option_copied_mut result ≡ lookup (Q.equivalent key) self.old.pairs }
-        ensures written { OnSome result ((written : V) → HasSetBy K.eq (Q.equivalent key)
-            self.old.pairs written (set_value (Q.equivalent key) self.old.pairs written)) }
+        ensures once_written { OnSome result ((last : V) → HasSetBy K.eq (Q.equivalent key)
+            self.old.pairs last (set_value (Q.equivalent key) self.old.pairs last)) }
         ensures cost { IsLookupCost S.KeyHasher Q.hash_input Q.equivalent key self.old
             tally.old tally.new }
         ensures valid { IsValid L.LIMIT K.eq self.old }

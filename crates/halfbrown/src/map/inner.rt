@@ -9,8 +9,8 @@ ghost use Rattle.std.specs.Result.{result_err};
 ghost use Rattle.half_store.specs.Capacity.{IsFormCapacity};
 ghost use Rattle.half_store.specs.PairLists.{set_key_at, set_value_at, swap_remove_at};
 ghost use Rattle.half_store.specs.Work.{looked_more};
-ghost use Rattle.half_store.specs.ValueReplacement.{kept_index, ReplacesValue};
-ghost use Rattle.halfbrown.specs.Costs.{probe_length};
+ghost use Rattle.half_store.specs.ValueReplacement.{index_if_kept, ReplacesValue};
+ghost use Rattle.halfbrown.specs.Costs.{miss_reads};
 ghost use Rattle.halfbrown.specs.Pairs.{holds};
 ghost use Rattle.halfbrown.specs.Insertion.{pushed};
 ghost use Rattle.halfbrown.specs.State.{IsValid, WithPairs, IsPlacedIn, IsVacancyIn, map_with_pairs, state_in};
@@ -76,7 +76,7 @@ impl<K: Eq + Hash, V, S: KeyHasher<K>, L: Limit> LimitedHashMap<K, V, S, L> {
     pub(crate) fn vacancy_for(&self, hash: u64, tally: &mut Tally) -> Vacancy
         requires capacity { length self.now.pairs < self.now.capacity }
         ensures vacant { IsVacancyIn self.now hash result }
-        ensures work { tally.new ≡ looked_more (probe_length
+        ensures work { tally.new ≡ looked_more (miss_reads
             (S.hash self.now.builder) self.now.is_vec self.now.capacity self.now.pairs hash) tally.old }
     {
         self.store.vacancy_for(hash, tally)
@@ -143,8 +143,8 @@ impl<K: Eq + Hash, V, S: KeyHasher<K>, L: Limit> LimitedHashMap<K, V, S, L> {
         self.store.shift_take_at(found)
     }
 
-    /// Hands the value of the pair that is held here to `f`, with its key. Where `f` returns a value the pair has that one, and
-    /// where it is held is returned: in a vector it goes last, and the last pair takes its index; in a table it stays. Where `f`
+    /// Hands the value of the pair that is held here to `f`, with its key. If `f` returns a value the pair has that one, and
+    /// where it is held is returned: in a vector it goes last, and the last pair takes its index; in a table it stays. If `f`
     /// returns none the pair is removed, and its key returned with its hash, at which a vector does not look.
     #[inline]
     pub(crate) fn replace_at<F: FnOnce(&K, V) -> Option<V>>(
@@ -159,7 +159,7 @@ impl<K: Eq + Hash, V, S: KeyHasher<K>, L: Limit> LimitedHashMap<K, V, S, L> {
         ensures replaces { ReplacesValue (F.post f) self.old.is_vec self.old.pairs found.index
             self.new.pairs (option_map (λ removed. removed.0) (result_err result)) }
         ensures at { IfOk result
-            (λ at. at.index ≡ kept_index self.old.is_vec self.old.pairs found.index) }
+            (λ at. at.index ≡ index_if_kept self.old.is_vec self.old.pairs found.index) }
         ensures placed { IfOk result (IsPlacedIn self.new) }
         ensures after { WithPairs self.old self.new.pairs self.new }
         ensures hash { IfErr result

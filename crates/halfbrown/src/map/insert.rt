@@ -1,8 +1,8 @@
 //! Insertion, and what it writes: a value replaced, or a pair added whose key is not held.
 ghost use Rattle.std.specs.Prelude.{◌≡◌, false, is_ok};
-ghost use Rattle.halfbrown.specs.CostRanges.{GrewBy};
+ghost use Rattle.halfbrown.specs.CostRanges.{TallyGrewBy};
 ghost use Rattle.halfbrown.specs.Costs.{new_key_cost, IsInsertCost};
-ghost use Rattle.halfbrown.specs.Insertion.{Inserts, InsertsAt, InsertsNewKey};
+ghost use Rattle.halfbrown.specs.Insertion.{PutsOrHandsBack, PutsOrHandsBackWithIndex, PutsNewKeyOrHandsBack};
 ghost use Rattle.halfbrown.specs.Pairs.{holds};
 
 use super::LimitedHashMap;
@@ -14,10 +14,10 @@ use std::hash::Hash;
 impl<K: Eq + Hash, V, S: KeyHasher<K>, L: Limit> LimitedHashMap<K, V, S, L> {
     /// Gives the key this value, and returns its old one.
     ///
-    /// Where an equal key is held, that key stays at its index, and the given key is dropped. Else the pair is added at
+    /// If an equal key is held, that key stays at its index, and the given key is dropped. Otherwise the pair is added at
     /// the end. A vector that holds as many pairs as the limit becomes a table first, in both cases.
     ///
-    /// Fails only where more capacity is needed: for the switch, or for a new key where none is left. Then nothing
+    /// Fails only if more capacity is needed: for the switch, or for a new key if none is left. Then nothing
     /// changes, and the error has the pair.
     ///
     /// It costs one search, and a switch hashes each key once. Growth hashes nothing, and a table that grows is probed a
@@ -31,12 +31,12 @@ impl<K: Eq + Hash, V, S: KeyHasher<K>, L: Limit> LimitedHashMap<K, V, S, L> {
     pub fn insert(&mut self, key: K, value: V) -> Result<Option<V>, Refused<K, V>>
     where
         K: Drop,
-        ensures { Inserts L.LIMIT K.eq self.old key value result self.new }
+        ensures { PutsOrHandsBack L.LIMIT K.eq self.old key value result self.new }
     {
         uncounted!(self.insert_counted(key, value))
     }
 
-    /// `insert`, with its work counted: one search, one hash for each pair at a switch, and one insertion probe where a new
+    /// `insert`, with its work counted: one search, one hash for each pair at a switch, and one insertion probe if a new
     /// key makes the table grow.
     #[inline(always)]
     pub fn insert_counted(
@@ -47,7 +47,7 @@ impl<K: Eq + Hash, V, S: KeyHasher<K>, L: Limit> LimitedHashMap<K, V, S, L> {
     ) -> Result<Option<V>, Refused<K, V>>
     where
         K: Drop,
-        ensures inserts { Inserts L.LIMIT K.eq self.old key value result self.new }
+        ensures inserts { PutsOrHandsBack L.LIMIT K.eq self.old key value result self.new }
         ensures cost { IsInsertCost L.LIMIT K.eq S.hash self.old key (is_ok result)
             tally.old tally.new }
     {
@@ -72,7 +72,7 @@ impl<K: Eq + Hash, V, S: KeyHasher<K>, L: Limit> LimitedHashMap<K, V, S, L> {
     pub fn insert_full(&mut self, key: K, value: V) -> Result<(usize, Option<V>), Refused<K, V>>
     where
         K: Drop,
-        ensures { InsertsAt L.LIMIT K.eq self.old key value result self.new }
+        ensures { PutsOrHandsBackWithIndex L.LIMIT K.eq self.old key value result self.new }
     {
         uncounted!(self.insert_full_counted(key, value))
     }
@@ -87,7 +87,7 @@ impl<K: Eq + Hash, V, S: KeyHasher<K>, L: Limit> LimitedHashMap<K, V, S, L> {
     ) -> Result<(usize, Option<V>), Refused<K, V>>
     where
         K: Drop,
-        ensures inserts { InsertsAt L.LIMIT K.eq self.old key value result self.new }
+        ensures inserts { PutsOrHandsBackWithIndex L.LIMIT K.eq self.old key value result self.new }
         ensures cost { IsInsertCost L.LIMIT K.eq S.hash self.old key (is_ok result)
             tally.old tally.new }
     {
@@ -115,7 +115,7 @@ impl<K: Eq + Hash, V, S: KeyHasher<K>, L: Limit> LimitedHashMap<K, V, S, L> {
     #[inline(always)]
     pub fn insert_nocheck(&mut self, key: K, value: V) -> Result<(), Refused<K, V>>
         requires { holds K.eq self.old.pairs key ≡ false }
-        ensures { InsertsNewKey L.LIMIT K.eq self.old key value result self.new }
+        ensures { PutsNewKeyOrHandsBack L.LIMIT K.eq self.old key value result self.new }
     {
         uncounted!(self.insert_nocheck_counted(key, value))
     }
@@ -130,8 +130,8 @@ impl<K: Eq + Hash, V, S: KeyHasher<K>, L: Limit> LimitedHashMap<K, V, S, L> {
         tally: &mut Tally,
     ) -> Result<(), Refused<K, V>>
         requires { holds K.eq self.old.pairs key ≡ false }
-        ensures inserts { InsertsNewKey L.LIMIT K.eq self.old key value result self.new }
-        ensures cost { GrewBy (new_key_cost L.LIMIT K.eq S.hash self.old key (is_ok result))
+        ensures inserts { PutsNewKeyOrHandsBack L.LIMIT K.eq self.old key value result self.new }
+        ensures cost { TallyGrewBy (new_key_cost L.LIMIT K.eq S.hash self.old key (is_ok result))
             tally.old tally.new }
     {
         match self.prepare_new(&key, tally) {

@@ -84,8 +84,8 @@ impl<K: Eq + Hash + Drop, V: Drop, S: KeyHasher<K> + Drop, L: Limit> IntoIterato
         × GivesInOrder (K × V) × ShowsValuesInOrder (λ (pair : K × V). pair)
         × IsValid L.LIMIT K.eq map };
 
-    /// Returns the pairs, in order, by value. The builder and the table are dropped at once: the iterator has the two
-    /// columns alone. It takes no memory.
+    /// Returns the pairs, in order, by value. The builder and the table are dropped at once: the iterator has only the
+    /// two columns. It takes no memory.
     ///
     /// ```
     /// let mut oldest = 0;

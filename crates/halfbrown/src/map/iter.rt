@@ -8,7 +8,7 @@ ghost use Rattle.std.specs.Iterator.Runs.{YieldsMutRefsInOrder};
 ghost use Rattle.std.specs.Map.{keys_of, values_of};
 ghost use Rattle.std.specs.Map.Iter.{LendsValuesInOrder, ShowsInOrder, deref};
 ghost use Rattle.halfbrown.specs.State.{IsValid};
-ghost use Rattle.halfbrown.specs.Updates.{KeepsKeys};
+ghost use Rattle.halfbrown.specs.Updates.{WrittenValuesKeepKeys};
 
 use super::LimitedHashMap;
 use crate::{Column, Iter, IterMut, KeyHasher, Keys, Limit, Values, ValuesMut};
@@ -95,7 +95,7 @@ impl<K: Eq + Hash, V, S: KeyHasher<K>, L: Limit> LimitedHashMap<K, V, S, L> {
             S.KeyHasher L.Limit self.entry (iter_mut_name result)) }
         ensures left { iter_mut_left result ≡ self.old.pairs }
         ensures values_run { LendsValuesInOrder (iter_mut_left {K = K} {V = V}) }
-        ensures keeps { KeepsKeys L.LIMIT K.eq self.old }
+        ensures keeps { WrittenValuesKeepKeys L.LIMIT K.eq self.old }
     {
         let (keys, values) = self.store.columns_mut();
         IterMut {
@@ -118,7 +118,7 @@ impl<K: Eq + Hash, V, S: KeyHasher<K>, L: Limit> LimitedHashMap<K, V, S, L> {
             S.KeyHasher L.Limit self.entry (values_mut_name result)) }
         ensures left { values_mut_left result ≡ values_of self.old.pairs }
         ensures runs { YieldsMutRefsInOrder (ValuesMutSteps {K = K} {V = V}) values_mut_left }
-        ensures keeps { KeepsKeys L.LIMIT K.eq self.old }
+        ensures keeps { WrittenValuesKeepKeys L.LIMIT K.eq self.old }
     {
         let (_, values) = self.store.columns_mut();
         ValuesMut {
@@ -139,7 +139,7 @@ impl<K: Eq + Hash, V, S: KeyHasher<K>, L: Limit> LimitedHashMap<K, V, S, L> {
         ensures* writes_back { sem 𝓛 (LendsValues K.row V.row S.row L.row S.Hasher.row K.Hash
             S.KeyHasher L.Limit self.entry result.ghost_name) }
         ensures values { result.now ≡ values_of self.old.pairs }
-        ensures keeps { KeepsKeys L.LIMIT K.eq self.old }
+        ensures keeps { WrittenValuesKeepKeys L.LIMIT K.eq self.old }
     {
         let (_, values) = self.store.columns_mut();
         values

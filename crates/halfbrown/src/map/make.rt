@@ -1,7 +1,6 @@
 //! Making a map.
-ghost use Rattle.std.specs.Prelude.{◌≡◌, true, min, IfOk};
-ghost use Rattle.half_store.specs.Capacity.{is_vec_for};
-ghost use Rattle.halfbrown.specs.Making.{IsDefaultBuilder, IsNew, Makes};
+ghost use Rattle.std.specs.Prelude.{◌≡◌, min, IfOk};
+ghost use Rattle.halfbrown.specs.Making.{IsDefaultBuilder, IsNew, MakesOrRefuses};
 ghost use Rattle.halfbrown.specs.State.{IsValid};
 
 use super::{DefaultHashBuilder, LimitedHashMap};
@@ -25,11 +24,11 @@ impl<K: Eq + Hash, V, L: Limit> LimitedHashMap<K, V, DefaultHashBuilder, L> {
         LimitedHashMap::with_hasher(alloc, BuildHasherDefault::new())
     }
 
-    /// Returns an empty map with the default builder and capacity for this many pairs: a vector where the limit allows
-    /// them, else a table. `with_capacity_and_hasher` takes another builder.
+    /// Returns an empty map with the default builder and capacity for this many pairs: a vector if the limit allows
+    /// them, otherwise a table. `with_capacity_and_hasher` takes another builder.
     ///
     /// A vector has exactly this capacity, and a table the least of 3, 6, 12, 24 and so on that is enough. It fails
-    /// with `Size` for more than 2^60 pairs, and with `Memory` where memory is refused. For no pairs it takes no memory,
+    /// with `Size` for more than 2^60 pairs, and with `Memory` if memory is refused. For no pairs it takes no memory,
     /// and never fails.
     ///
     /// ```
@@ -38,8 +37,7 @@ impl<K: Eq + Hash, V, L: Limit> LimitedHashMap<K, V, DefaultHashBuilder, L> {
     /// assert!(rt; small.is_vec() && large.is_map());
     /// ```
     pub fn with_capacity(alloc: Global, capacity: usize) -> Result<Self, Refusal>
-        ensures makes { Makes IsDefaultBuilder (is_vec_for L.LIMIT capacity)
-            capacity result }
+        ensures makes { MakesOrRefuses IsDefaultBuilder L.LIMIT capacity result }
         ensures valid { IfOk result (IsValid L.LIMIT K.eq) }
     {
         LimitedHashMap::with_capacity_and_hasher(alloc, capacity, BuildHasherDefault::new())
@@ -55,8 +53,7 @@ impl<K: Eq + Hash, V, L: Limit> LimitedHashMap<K, V, DefaultHashBuilder, L> {
     /// assert_eq!(rt; ages.capacity(), 32);
     /// ```
     pub fn vec_with_capacity(alloc: Global, capacity: usize) -> Result<Self, Refusal>
-        ensures makes { Makes IsDefaultBuilder true
-            (min capacity L.LIMIT) result }
+        ensures makes { MakesOrRefuses IsDefaultBuilder L.LIMIT (min capacity L.LIMIT) result }
         ensures valid { IfOk result (IsValid L.LIMIT K.eq) }
     {
         LimitedHashMap::with_capacity(alloc, capacity.min(L::LIMIT))
@@ -96,8 +93,8 @@ impl<K: Eq + Hash, V, S: KeyHasher<K>, L: Limit> LimitedHashMap<K, V, S, L> {
         LimitedHashMap::with_hasher(alloc, S::default())
     }
 
-    /// Returns an empty map with this builder and capacity for this many pairs: a vector where the limit allows them,
-    /// else a table. It fails as `with_capacity` does.
+    /// Returns an empty map with this builder and capacity for this many pairs: a vector if the limit allows them,
+    /// otherwise a table. It fails as `with_capacity` does.
     ///
     /// ```
     /// let builder = DefaultHashBuilder::new();
@@ -111,7 +108,7 @@ impl<K: Eq + Hash, V, S: KeyHasher<K>, L: Limit> LimitedHashMap<K, V, S, L> {
     ) -> Result<Self, Refusal>
     where
         S: Drop,
-        ensures makes { Makes (λ b. b ≡ builder) (is_vec_for L.LIMIT capacity) capacity result }
+        ensures makes { MakesOrRefuses (λ b. b ≡ builder) L.LIMIT capacity result }
         ensures valid { IfOk result (IsValid L.LIMIT K.eq) }
     {
         Ok(LimitedHashMap {

@@ -1,11 +1,11 @@
 //! What an insertion does before it writes: the switch, the search, and capacity for one pair more.
 ghost use Rattle.std.specs.Prelude.{◌≡◌, ◌<◌, false, length, OnOk, IfOk, is_ok, if◌then◌else◌};
 ghost use Rattle.half_store.specs.Work.{looked_more, asked_more};
-ghost use Rattle.halfbrown.specs.CostRanges.{GrewBy};
+ghost use Rattle.halfbrown.specs.CostRanges.{TallyGrewBy};
 ghost use Rattle.halfbrown.specs.Costs.{switch_asked, new_key_cost, IsInsertCost};
-ghost use Rattle.halfbrown.specs.Growth.{is_full, growth_needs, insert_needs, new_key_needs};
+ghost use Rattle.halfbrown.specs.Growth.{is_full, capacity_for_growth, capacity_for_insert, capacity_for_new_key};
 ghost use Rattle.halfbrown.specs.Pairs.{holds};
-ghost use Rattle.halfbrown.specs.Insertion.{IsPreparedFor, MayInsertAt, PreparesOrRefuses, second_probe_reads};
+ghost use Rattle.halfbrown.specs.Insertion.{IsPreparedFor, MayInsertAt, PreparesOrRefuses, growth_probe_reads};
 ghost use Rattle.halfbrown.specs.State.{IsVacancyIn};
 
 use super::LimitedHashMap;
@@ -22,11 +22,11 @@ pub(crate) enum Place {
 }
 
 impl<K: Eq + Hash, V, S: KeyHasher<K>, L: Limit> LimitedHashMap<K, V, S, L> {
-    /// Switches a full vector and searches for a key; where it is not held, makes capacity for its pair.
+    /// Switches a full vector and searches for a key; if it is not held, makes capacity for its pair.
     #[inline(always)]
     pub(crate) fn prepare(&mut self, key: &K, tally: &mut Tally) -> Result<Place, Refusal>
         ensures prepares { PreparesOrRefuses L.LIMIT K.eq self.old
-            (insert_needs L.LIMIT K.eq self.old key.now) result self.new }
+            (capacity_for_insert L.LIMIT K.eq self.old key.now) result self.new }
         ensures place { IfOk result (IsPreparedFor K.eq S.hash self.new key.now) }
         ensures cost { IsInsertCost L.LIMIT K.eq S.hash self.old key.now (is_ok result)
             tally.old tally.new }
@@ -44,9 +44,9 @@ impl<K: Eq + Hash, V, S: KeyHasher<K>, L: Limit> LimitedHashMap<K, V, S, L> {
     pub(crate) fn prepare_new(&mut self, key: &K, tally: &mut Tally) -> Result<Vacancy, Refusal>
         requires { holds K.eq self.old.pairs key.now ≡ false }
         ensures prepares { PreparesOrRefuses L.LIMIT K.eq self.old
-            (new_key_needs L.LIMIT self.old) result self.new }
+            (capacity_for_new_key L.LIMIT self.old) result self.new }
         ensures vacancy { IfOk result (MayInsertAt K.eq S.hash self.new key.now) }
-        ensures cost { GrewBy (new_key_cost L.LIMIT K.eq S.hash self.old key.now (is_ok result))
+        ensures cost { TallyGrewBy (new_key_cost L.LIMIT K.eq S.hash self.old key.now (is_ok result))
             tally.old tally.new }
     {
         self.switch_if_full(tally)?;
@@ -57,9 +57,9 @@ impl<K: Eq + Hash, V, S: KeyHasher<K>, L: Limit> LimitedHashMap<K, V, S, L> {
 
     /// Switches a full vector and makes capacity for one pair more, whatever its key. Nothing is searched for.
     #[inline(always)]
-    pub(crate) fn prepare_any(&mut self, tally: &mut Tally) -> Result<(), Refusal>
+    pub(crate) fn switch_and_reserve_one(&mut self, tally: &mut Tally) -> Result<(), Refusal>
         ensures prepares { PreparesOrRefuses L.LIMIT K.eq self.old
-            (new_key_needs L.LIMIT self.old) result self.new }
+            (capacity_for_new_key L.LIMIT self.old) result self.new }
         ensures capacity { OnOk result (length self.new.pairs < self.new.capacity) }
         ensures work { tally.new ≡ (if is_ok result
             then asked_more (switch_asked L.LIMIT self.old) tally.old else tally.old) }
@@ -73,7 +73,7 @@ impl<K: Eq + Hash, V, S: KeyHasher<K>, L: Limit> LimitedHashMap<K, V, S, L> {
     fn reserve_one(&mut self) -> Result<(), Refusal>
         requires not_full { is_full L.LIMIT self.old ≡ false }
         ensures prepares { PreparesOrRefuses L.LIMIT K.eq self.old
-            (growth_needs self.old) result self.new }
+            (capacity_for_growth self.old) result self.new }
         ensures capacity { OnOk result (length self.new.pairs < self.new.capacity) }
     {
         if self.store.has_capacity_left() {
@@ -82,7 +82,7 @@ impl<K: Eq + Hash, V, S: KeyHasher<K>, L: Limit> LimitedHashMap<K, V, S, L> {
         self.reserve(1)
     }
 
-    // The same, and returns the vacancy, whose bucket is probed for anew where the table grew.
+    // Makes capacity for one pair. After growth it probes for the bucket again.
     #[inline(always)]
     fn reserve_one_keeping(
         &mut self,
@@ -93,11 +93,11 @@ impl<K: Eq + Hash, V, S: KeyHasher<K>, L: Limit> LimitedHashMap<K, V, S, L> {
         requires vacant { 0 < self.old.capacity
             → IsVacancyIn self.old vacancy.hash vacancy }
         ensures prepares { PreparesOrRefuses L.LIMIT K.eq self.old
-            (growth_needs self.old) result self.new }
+            (capacity_for_growth self.old) result self.new }
         ensures capacity { OnOk result (length self.new.pairs < self.new.capacity) }
         ensures vacant { IfOk result
             (IsVacancyIn self.new vacancy.hash) }
-        ensures work { tally.new ≡ looked_more (second_probe_reads (S.hash self.old.builder) self.old vacancy.hash (is_ok result))
+        ensures work { tally.new ≡ looked_more (growth_probe_reads (S.hash self.old.builder) self.old vacancy.hash (is_ok result))
             tally.old }
     {
         if self.store.has_capacity_left() {

@@ -2,8 +2,8 @@
 ghost use Rattle.std.specs.Prelude.{◌≡◌, false};
 ghost use Rattle.std.specs.Map.{lookup, lookup_entry};
 ghost use Rattle.std.specs.Option.{option_map};
-ghost use Rattle.halfbrown.specs.Costs.{IsLookupCost, IsHashedLookupCost};
-ghost use Rattle.halfbrown.specs.Updates.{Removes, ShiftRemoves, ShiftRemovesAt};
+ghost use Rattle.halfbrown.specs.Costs.{IsLookupCost, IsLookupCostByHash};
+ghost use Rattle.halfbrown.specs.Updates.{SwapRemoves, ShiftRemoves, ShiftRemovesAt};
 
 use super::LimitedHashMap;
 use crate::{Equivalent, KeyHasher, Limit};
@@ -11,7 +11,7 @@ use half_store::{Scan, Tally, uncounted};
 use std::hash::Hash;
 
 impl<K: Eq + Hash, V, S: KeyHasher<K>, L: Limit> LimitedHashMap<K, V, S, L> {
-    /// Removes the pair of the held key that equals this one, and returns its value, or `None` where there is none. The
+    /// Removes the pair of the held key that equals this one, and returns its value, or `None` if there is none. The
     /// last pair takes its index. Form, capacity and builder stay. It costs one search.
     ///
     /// ```
@@ -22,7 +22,7 @@ impl<K: Eq + Hash, V, S: KeyHasher<K>, L: Limit> LimitedHashMap<K, V, S, L> {
     pub fn remove<Q: Equivalent<K>>(&mut self, key: Q) -> Option<V>
     where
         K: Drop,
-        ensures { Removes L.LIMIT K.eq (Q.equivalent key) self.old
+        ensures { SwapRemoves L.LIMIT K.eq (Q.equivalent key) self.old
             (lookup (Q.equivalent key) self.old.pairs) result self.new }
     {
         uncounted!(self.remove_counted(key))
@@ -33,7 +33,7 @@ impl<K: Eq + Hash, V, S: KeyHasher<K>, L: Limit> LimitedHashMap<K, V, S, L> {
     pub fn remove_counted<Q: Equivalent<K>>(&mut self, key: Q, tally: &mut Tally) -> Option<V>
     where
         K: Drop,
-        ensures removes { Removes L.LIMIT K.eq (Q.equivalent key) self.old
+        ensures removes { SwapRemoves L.LIMIT K.eq (Q.equivalent key) self.old
             (lookup (Q.equivalent key) self.old.pairs) result self.new }
         ensures cost { IsLookupCost S.KeyHasher Q.hash_input Q.equivalent key self.old
             tally.old tally.new }
@@ -50,7 +50,7 @@ impl<K: Eq + Hash, V, S: KeyHasher<K>, L: Limit> LimitedHashMap<K, V, S, L> {
     /// ```
     #[inline(always)]
     pub fn remove_entry<Q: Equivalent<K>>(&mut self, key: Q) -> Option<(K, V)>
-        ensures { Removes L.LIMIT K.eq (Q.equivalent key) self.old
+        ensures { SwapRemoves L.LIMIT K.eq (Q.equivalent key) self.old
             (lookup_entry (Q.equivalent key) self.old.pairs) result self.new }
     {
         uncounted!(self.remove_entry_counted(key))
@@ -63,7 +63,7 @@ impl<K: Eq + Hash, V, S: KeyHasher<K>, L: Limit> LimitedHashMap<K, V, S, L> {
         key: Q,
         tally: &mut Tally,
     ) -> Option<(K, V)>
-        ensures removes { Removes L.LIMIT K.eq (Q.equivalent key) self.old
+        ensures removes { SwapRemoves L.LIMIT K.eq (Q.equivalent key) self.old
             (lookup_entry (Q.equivalent key) self.old.pairs) result self.new }
         ensures cost { IsLookupCost S.KeyHasher Q.hash_input Q.equivalent key self.old
             tally.old tally.new }
@@ -86,7 +86,7 @@ impl<K: Eq + Hash, V, S: KeyHasher<K>, L: Limit> LimitedHashMap<K, V, S, L> {
         key: Q,
     ) -> Option<(K, V)>
         requires { hash ≡ S.hash_writes self.old.builder (Q.hash_input key) }
-        ensures removes { Removes L.LIMIT K.eq (Q.equivalent key) self.old
+        ensures removes { SwapRemoves L.LIMIT K.eq (Q.equivalent key) self.old
             (lookup_entry (Q.equivalent key) self.old.pairs) result self.new }
         ensures value { option_map (λ pair. pair.1) result
             ≡ lookup (Q.equivalent key) self.old.pairs }
@@ -105,11 +105,11 @@ impl<K: Eq + Hash, V, S: KeyHasher<K>, L: Limit> LimitedHashMap<K, V, S, L> {
     ) -> Option<(K, V)>
         requires { self.old.is_vec ≡ false
             → hash ≡ S.hash_writes self.old.builder (Q.hash_input key) }
-        ensures removes { Removes L.LIMIT K.eq (Q.equivalent key) self.old
+        ensures removes { SwapRemoves L.LIMIT K.eq (Q.equivalent key) self.old
             (lookup_entry (Q.equivalent key) self.old.pairs) result self.new }
         ensures value { option_map (λ pair. pair.1) result
             ≡ lookup (Q.equivalent key) self.old.pairs }
-        ensures cost { IsHashedLookupCost S.KeyHasher Q.hash_input Q.equivalent key self.old
+        ensures cost { IsLookupCostByHash S.KeyHasher Q.hash_input Q.equivalent key self.old
             tally.old tally.new }
     {
         match self.find_hashed(hash, key, Scan::ByKey, tally) {
@@ -119,7 +119,7 @@ impl<K: Eq + Hash, V, S: KeyHasher<K>, L: Limit> LimitedHashMap<K, V, S, L> {
     }
 
     /// Removes the pair of the held key that equals this one, and returns its value. Each pair behind it gets the index
-    /// before its own. Where no such key is held, nothing changes. The form and the capacity stay, and no memory is needed.
+    /// before its own. If no such key is held, nothing changes. The form and the capacity stay, and no memory is needed.
     ///
     /// It costs one search. Then the pairs behind it move, which takes time that grows with their number, and a table goes
     /// over all of its buckets, which takes time that grows with the capacity. `remove` takes the time of a search.
@@ -184,7 +184,7 @@ impl<K: Eq + Hash, V, S: KeyHasher<K>, L: Limit> LimitedHashMap<K, V, S, L> {
         }
     }
 
-    /// Removes the pair at this index, and returns it. Each pair behind it gets the index before its own. Where the index is
+    /// Removes the pair at this index, and returns it. Each pair behind it gets the index before its own. If the index is
     /// not below `len`, nothing changes. Nothing is hashed or compared, and all else is as for `shift_remove`.
     ///
     /// ```

@@ -11,7 +11,7 @@ impl<K: Eq + Hash, V, S: KeyHasher<K>, L: Limit> LimitedHashMap<K, V, S, L> {
     /// Keeps the pairs that `f` accepts. `f` is called once at each pair, from first to last, and may change the value.
     /// The pairs that it accepts stay in their order, with the values that it left.
     ///
-    /// The form, the capacity and the builder stay. No memory is taken, and nothing is hashed or compared. Where a pair
+    /// The form, the capacity and the builder stay. No memory is taken, and nothing is hashed or compared. If a pair
     /// goes, a table empties all of its buckets, and probes anew for each pair that is kept.
     ///
     /// ```

@@ -4,7 +4,7 @@ ghost use Rattle.std.specs.Prelude.{OnOk, is_ok, if◌then◌else◌};
 ghost use Rattle.half_store.specs.Capacity.{capacity_of};
 ghost use Rattle.half_store.specs.Work.{asked_more};
 ghost use Rattle.halfbrown.specs.Costs.{switch_asked};
-ghost use Rattle.halfbrown.specs.Growth.{is_full, switch_needs};
+ghost use Rattle.halfbrown.specs.Growth.{is_full, capacity_for_switch};
 ghost use Rattle.halfbrown.specs.Insertion.{PreparesOrRefuses};
 
 use super::LimitedHashMap;
@@ -17,7 +17,7 @@ impl<K: Eq + Hash, V, S: KeyHasher<K>, L: Limit> LimitedHashMap<K, V, S, L> {
     #[inline(always)]
     pub(crate) fn switch_if_full(&mut self, tally: &mut Tally) -> Result<(), Refusal>
         ensures prepares { PreparesOrRefuses L.LIMIT K.eq self.old
-            (switch_needs L.LIMIT self.old) result self.new }
+            (capacity_for_switch L.LIMIT self.old) result self.new }
         ensures same { is_full L.LIMIT self.old ≡ false → self.new ≡ self.old }
         ensures not_full { OnOk result (is_full L.LIMIT self.new ≡ false) }
         ensures capacity_left { OnOk result (is_full L.LIMIT self.old ≡ true
@@ -36,7 +36,7 @@ impl<K: Eq + Hash, V, S: KeyHasher<K>, L: Limit> LimitedHashMap<K, V, S, L> {
     fn switch(&mut self, tally: &mut Tally) -> Result<(), Refusal>
         requires { is_full L.LIMIT self.old ≡ true }
         ensures prepares { PreparesOrRefuses L.LIMIT K.eq self.old
-            (switch_needs L.LIMIT self.old) result self.new }
+            (capacity_for_switch L.LIMIT self.old) result self.new }
         ensures capacity_left { OnOk result (length self.new.pairs < self.new.capacity) }
         ensures work { tally.new ≡ (if is_ok result
             then asked_more (switch_asked L.LIMIT self.old) tally.old else tally.old) }

@@ -14,7 +14,7 @@ use half_store::{Tally, uncounted};
 use std::hash::Hash;
 
 impl<'a, K: Eq + Hash, V, S: KeyHasher<K>, L: Limit> RawEntryMut<'a, K, V, S, L> {
-    /// Gives the pair that was found this value, and drops the given key. Where none was found, adds the pair, whose
+    /// Gives the pair that was found this value, and drops the given key. If none was found, adds the pair, whose
     /// key must not be held. Returns the pair's entry.
     ///
     /// ```
@@ -32,7 +32,7 @@ impl<'a, K: Eq + Hash, V, S: KeyHasher<K>, L: Limit> RawEntryMut<'a, K, V, S, L>
         uncounted!(self.insert_counted(key, value))
     }
 
-    /// `insert`, with its work counted: nothing where a pair was found, and else that of a vacant entry's `insert`.
+    /// `insert`, with its work counted: nothing if a pair was found, and otherwise that of a vacant entry's `insert`.
     #[inline]
     pub fn insert_counted(
         self,
@@ -56,7 +56,7 @@ impl<'a, K: Eq + Hash, V, S: KeyHasher<K>, L: Limit> RawEntryMut<'a, K, V, S, L>
         }
     }
 
-    /// Adds the pair where none was found. Its key must not be held then. A pair that was found stays, and the given
+    /// Adds the pair if none was found. Its key must not be held then. A pair that was found stays, and the given
     /// one is dropped. Returns the entry of the pair that is held now.
     ///
     /// ```
@@ -75,7 +75,7 @@ impl<'a, K: Eq + Hash, V, S: KeyHasher<K>, L: Limit> RawEntryMut<'a, K, V, S, L>
         uncounted!(self.or_insert_entry_counted(default_key, default_value))
     }
 
-    /// `or_insert_entry`, with its work counted: nothing where a pair was found, and else that of a vacant entry's `insert`.
+    /// `or_insert_entry`, with its work counted: nothing if a pair was found, and otherwise that of a vacant entry's `insert`.
     #[inline]
     pub fn or_insert_entry_counted(
         self,
@@ -94,8 +94,7 @@ impl<'a, K: Eq + Hash, V, S: KeyHasher<K>, L: Limit> RawEntryMut<'a, K, V, S, L>
     {
         match self {
             RawEntryMut::Occupied(entry) => {
-                // Tells the prover what holds of every map: `len` states it of the one that it reads. The `return` keeps the
-                // proofs of the two arms apart.
+                // `len` tells the prover `IsValid` of the map, and the `return` keeps the proofs of the two arms apart.
                 prove!(entry.index < entry.map.len());
                 return entry;
             }
@@ -105,7 +104,7 @@ impl<'a, K: Eq + Hash, V, S: KeyHasher<K>, L: Limit> RawEntryMut<'a, K, V, S, L>
         }
     }
 
-    /// Adds the pair where none was found. Its key must not be held then. A pair that was found stays, and the given
+    /// Adds the pair if none was found. Its key must not be held then. A pair that was found stays, and the given
     /// one is dropped. Returns the stored key, and the value that is held now, to be written for as long as the map is
     /// borrowed.
     ///
@@ -125,7 +124,7 @@ impl<'a, K: Eq + Hash, V, S: KeyHasher<K>, L: Limit> RawEntryMut<'a, K, V, S, L>
         uncounted!(self.or_insert_counted(default_key, default_value))
     }
 
-    /// `or_insert`, with its work counted: nothing where a pair was found, and else that of a vacant entry's `insert`.
+    /// `or_insert`, with its work counted: nothing if a pair was found, and otherwise that of a vacant entry's `insert`.
     #[inline]
     pub fn or_insert_counted(
         self,
@@ -146,7 +145,7 @@ impl<'a, K: Eq + Hash, V, S: KeyHasher<K>, L: Limit> RawEntryMut<'a, K, V, S, L>
             .into_key_value()
     }
 
-    /// `or_insert` with a pair that is made only where none was found.
+    /// `or_insert` with a pair that is made only if none was found.
     ///
     /// ```
     /// let (_, age) = ages.raw_entry_mut()?.from_key(&3).or_insert_with(|| (3, 5));
@@ -163,7 +162,7 @@ impl<'a, K: Eq + Hash, V, S: KeyHasher<K>, L: Limit> RawEntryMut<'a, K, V, S, L>
         uncounted!(self.or_insert_with_counted(default))
     }
 
-    /// `or_insert_with`, with its work counted: nothing where a pair was found, and else that of a vacant entry's `insert`.
+    /// `or_insert_with`, with its work counted: nothing if a pair was found, and otherwise that of a vacant entry's `insert`.
     #[inline]
     pub fn or_insert_with_counted<F: FnOnce() -> (K, V)>(
         self,
@@ -200,8 +199,7 @@ impl<'a, K: Eq + Hash, V, S: KeyHasher<K>, L: Limit> RawEntryMut<'a, K, V, S, L>
     {
         match self {
             RawEntryMut::Occupied(entry) => {
-                // Tells the prover what holds of every map: `len` states it of the one that it reads. The `return` keeps the
-                // proofs of the two arms apart.
+                // `len` tells the prover `IsValid` of the map, and the `return` keeps the proofs of the two arms apart.
                 prove!(entry.index < entry.map.len());
                 return entry;
             }
@@ -212,7 +210,7 @@ impl<'a, K: Eq + Hash, V, S: KeyHasher<K>, L: Limit> RawEntryMut<'a, K, V, S, L>
         }
     }
 
-    /// Changes the value of the pair that was found, and returns the entry. Where none was found `f` is not called.
+    /// Changes the value of the pair that was found, and returns the entry. If none was found `f` is not called.
     ///
     /// ```
     /// ages.raw_entry_mut()?.from_key(&1).and_modify(|_, age| *age = 37);

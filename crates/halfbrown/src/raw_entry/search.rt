@@ -1,6 +1,6 @@
 //! What raw entries are made from, and the searches of it.
 //!
-//! A clause `unchanged` says that the map stays as it is where memory is refused.
+//! A clause `unchanged` says that the map stays as it is if memory is refused.
 ghost use Rattle.std.specs.Prelude.{◌≡◌, false, is_ok, if◌then◌else◌};
 ghost use Rattle.std.specs.Borrow.{sem};
 ghost use Rattle.std.specs.Fn.{FnReturnsAt};
@@ -9,11 +9,11 @@ ghost use Rattle.std.specs.Map.Iter.{deref_pair};
 ghost use Rattle.std.specs.Option.{option_map};
 ghost use Rattle.half_store.specs.Search.{CallableOnKeys};
 ghost use Rattle.half_store.specs.Work.{asked_more};
-ghost use Rattle.halfbrown.specs.Costs.{IsLookupCost, IsHashedLookupCost, switch_asked};
-ghost use Rattle.halfbrown.specs.Lookup.{ReadsMatch, IsMatchCost};
+ghost use Rattle.halfbrown.specs.Costs.{IsLookupCost, IsLookupCostByHash, switch_asked};
+ghost use Rattle.halfbrown.specs.Lookup.{FindsMatch, IsMatchCost};
 ghost use Rattle.halfbrown.specs.Entry.{raw_view};
 ghost use Rattle.halfbrown.specs.EntryView.{entry_pair, FindsRawEntry, FindsRawEntryByMatch};
-ghost use Rattle.halfbrown.specs.RawEntry.{map_in, prepared_map, prepared_ref, MakesBuilder, RestsIfUnprepared, ReadsPair};
+ghost use Rattle.halfbrown.specs.RawEntry.{searched_map, prepared_map, prepared_map_ref, PreparesRawEntries, RestsIfUnprepared, FindsPair};
 
 use super::{Prepared, RawEntryBuilder, RawEntryBuilderMut, RawEntryMut, RawVacantEntryMut};
 use crate::{Equivalent, KeyHasher, Limit, LimitedHashMap, OccupiedEntry};
@@ -28,7 +28,7 @@ impl<K: Eq + Hash, V, S: KeyHasher<K>, L: Limit> LimitedHashMap<K, V, S, L> {
     /// ```
     #[inline(always)]
     pub fn raw_entry(&self) -> RawEntryBuilder<'_, K, V, S, L>
-        ensures { map_in result ≡ self.now }
+        ensures { searched_map result ≡ self.now }
     {
         RawEntryBuilder { map: self }
     }
@@ -37,7 +37,7 @@ impl<K: Eq + Hash, V, S: KeyHasher<K>, L: Limit> LimitedHashMap<K, V, S, L> {
     /// a pair is read, written, removed or added.
     ///
     /// A full vector becomes a table first, and the capacity is made enough for one more pair, whatever is searched
-    /// afterwards. Fails only where more capacity is needed, and then nothing changes. No call on the entry fails.
+    /// afterwards. Fails only if more capacity is needed, and then nothing changes. No call on the entry fails.
     ///
     /// ```
     /// let (_, age) = ages.raw_entry_mut()?.from_key(&3).or_insert(3, 5);
@@ -47,7 +47,7 @@ impl<K: Eq + Hash, V, S: KeyHasher<K>, L: Limit> LimitedHashMap<K, V, S, L> {
     pub fn raw_entry_mut(&mut self) -> Result<RawEntryBuilderMut<'_, K, V, S, L>, Refusal>
         ensures* unchanged { sem 𝓛
             (RestsIfUnprepared K.row V.row S.row L.row S.Hasher.row self.entry result) }
-        ensures makes { MakesBuilder L.LIMIT K.eq self.entry result }
+        ensures makes { PreparesRawEntries L.LIMIT K.eq self.entry result }
     {
         uncounted!(self.raw_entry_mut_counted())
     }
@@ -60,11 +60,11 @@ impl<K: Eq + Hash, V, S: KeyHasher<K>, L: Limit> LimitedHashMap<K, V, S, L> {
     ) -> Result<RawEntryBuilderMut<'_, K, V, S, L>, Refusal>
         ensures* unchanged { sem 𝓛
             (RestsIfUnprepared K.row V.row S.row L.row S.Hasher.row self.entry result) }
-        ensures makes { MakesBuilder L.LIMIT K.eq self.entry result }
+        ensures makes { PreparesRawEntries L.LIMIT K.eq self.entry result }
         ensures cost { tally.new ≡ (if is_ok result
             then asked_more (switch_asked L.LIMIT self.old) tally.old else tally.old) }
     {
-        match self.prepare_any(tally) {
+        match self.switch_and_reserve_one(tally) {
             Ok(()) => Ok(RawEntryBuilderMut::Prepared(Prepared { map: self })),
             Err(why) => Err(why),
         }
@@ -79,7 +79,7 @@ impl<'a, K: Eq + Hash, V, S: KeyHasher<K>, L: Limit> RawEntryBuilder<'a, K, V, S
     /// ```
     #[inline(always)]
     pub fn from_key<Q: Equivalent<K>>(self, key: Q) -> Option<(&'a K, &'a V)>
-        ensures { ReadsPair (Q.equivalent key) (map_in self.entry) result }
+        ensures { FindsPair (Q.equivalent key) (searched_map self.entry) result }
     {
         uncounted!(self.from_key_counted(key))
     }
@@ -91,8 +91,8 @@ impl<'a, K: Eq + Hash, V, S: KeyHasher<K>, L: Limit> RawEntryBuilder<'a, K, V, S
         key: Q,
         tally: &mut Tally,
     ) -> Option<(&'a K, &'a V)>
-        ensures reads { ReadsPair (Q.equivalent key) (map_in self.entry) result }
-        ensures cost { IsLookupCost S.KeyHasher Q.hash_input Q.equivalent key (map_in self.entry)
+        ensures reads { FindsPair (Q.equivalent key) (searched_map self.entry) result }
+        ensures cost { IsLookupCost S.KeyHasher Q.hash_input Q.equivalent key (searched_map self.entry)
             tally.old tally.new }
     {
         let hash = self.map.hash_in_table(&key, tally);
@@ -111,8 +111,8 @@ impl<'a, K: Eq + Hash, V, S: KeyHasher<K>, L: Limit> RawEntryBuilder<'a, K, V, S
         hash: u64,
         key: Q,
     ) -> Option<(&'a K, &'a V)>
-        requires { hash ≡ S.hash_writes (map_in self).builder (Q.hash_input key) }
-        ensures { ReadsPair (Q.equivalent key) (map_in self.entry) result }
+        requires { hash ≡ S.hash_writes (searched_map self).builder (Q.hash_input key) }
+        ensures { FindsPair (Q.equivalent key) (searched_map self.entry) result }
     {
         uncounted!(self.from_key_hashed_nocheck_counted(hash, key))
     }
@@ -126,10 +126,10 @@ impl<'a, K: Eq + Hash, V, S: KeyHasher<K>, L: Limit> RawEntryBuilder<'a, K, V, S
         key: Q,
         tally: &mut Tally,
     ) -> Option<(&'a K, &'a V)>
-        requires { (map_in self).is_vec ≡ false
-            → hash ≡ S.hash_writes (map_in self).builder (Q.hash_input key) }
-        ensures reads { ReadsPair (Q.equivalent key) (map_in self.entry) result }
-        ensures cost { IsHashedLookupCost S.KeyHasher Q.hash_input Q.equivalent key (map_in self.entry)
+        requires { (searched_map self).is_vec ≡ false
+            → hash ≡ S.hash_writes (searched_map self).builder (Q.hash_input key) }
+        ensures reads { FindsPair (Q.equivalent key) (searched_map self.entry) result }
+        ensures cost { IsLookupCostByHash S.KeyHasher Q.hash_input Q.equivalent key (searched_map self.entry)
             tally.old tally.new }
     {
         match self.map.find_hashed(hash, key, Scan::ByBlock, tally) {
@@ -138,7 +138,7 @@ impl<'a, K: Eq + Hash, V, S: KeyHasher<K>, L: Limit> RawEntryBuilder<'a, K, V, S
         }
     }
 
-    /// Returns a pair whose key `is_match` accepts, or none exactly where there is no such pair. In a vector it is the first
+    /// Returns a pair whose key `is_match` accepts, or none exactly if there is no such pair. In a vector it is the first
     /// such pair, whatever the hash. In a table it is one among those of this hash. Any hash may be given.
     ///
     /// `is_match` is called only with held keys, and in a table only with those of this hash.
@@ -149,8 +149,8 @@ impl<'a, K: Eq + Hash, V, S: KeyHasher<K>, L: Limit> RawEntryBuilder<'a, K, V, S
     /// ```
     #[inline(always)]
     pub fn from_hash<F: Fn(&K) -> bool>(self, hash: u64, is_match: F) -> Option<(&'a K, &'a V)>
-        requires { CallableOnKeys (F.pre is_match) (keys_of (map_in self).pairs) }
-        ensures { ReadsMatch (FnReturnsAt F.Fn is_match) S.hash hash (map_in self.entry)
+        requires { CallableOnKeys (F.pre is_match) (keys_of (searched_map self).pairs) }
+        ensures { FindsMatch (FnReturnsAt F.Fn is_match) S.hash hash (searched_map self.entry)
             (option_map deref_pair result) }
     {
         uncounted!(self.from_hash_counted(hash, is_match))
@@ -164,10 +164,10 @@ impl<'a, K: Eq + Hash, V, S: KeyHasher<K>, L: Limit> RawEntryBuilder<'a, K, V, S
         is_match: F,
         tally: &mut Tally,
     ) -> Option<(&'a K, &'a V)>
-        requires { CallableOnKeys (F.pre is_match) (keys_of (map_in self).pairs) }
-        ensures found { ReadsMatch (FnReturnsAt F.Fn is_match) S.hash hash (map_in self.entry)
+        requires { CallableOnKeys (F.pre is_match) (keys_of (searched_map self).pairs) }
+        ensures found { FindsMatch (FnReturnsAt F.Fn is_match) S.hash hash (searched_map self.entry)
             (option_map deref_pair result) }
-        ensures cost { IsMatchCost S.hash hash (map_in self.entry) (option_map deref_pair result)
+        ensures cost { IsMatchCost S.hash hash (searched_map self.entry) (option_map deref_pair result)
             tally.old tally.new }
     {
         match self.map.find_match(hash, &is_match, tally) {
@@ -190,7 +190,7 @@ impl<'a, K: Eq + Hash, V, S: KeyHasher<K>, L: Limit> RawEntryBuilderMut<'a, K, V
     #[inline]
     pub fn from_key<Q: Equivalent<K>>(self, key: Q) -> RawEntryMut<'a, K, V, S, L>
         ensures { FindsRawEntry L.LIMIT K.eq (Q.equivalent key)
-            (prepared_ref self.entry) (raw_view result) }
+            (prepared_map_ref self.entry) (raw_view result) }
     {
         uncounted!(self.from_key_counted(key))
     }
@@ -203,7 +203,7 @@ impl<'a, K: Eq + Hash, V, S: KeyHasher<K>, L: Limit> RawEntryBuilderMut<'a, K, V
         tally: &mut Tally,
     ) -> RawEntryMut<'a, K, V, S, L>
         ensures searches { FindsRawEntry L.LIMIT K.eq (Q.equivalent key)
-            (prepared_ref self.entry) (raw_view result) }
+            (prepared_map_ref self.entry) (raw_view result) }
         ensures cost { IsLookupCost S.KeyHasher Q.hash_input Q.equivalent key (prepared_map self.entry)
             tally.old tally.new }
     {
@@ -227,7 +227,7 @@ impl<'a, K: Eq + Hash, V, S: KeyHasher<K>, L: Limit> RawEntryBuilderMut<'a, K, V
     ) -> RawEntryMut<'a, K, V, S, L>
         requires { hash ≡ S.hash_writes (prepared_map self).builder (Q.hash_input key) }
         ensures { FindsRawEntry L.LIMIT K.eq (Q.equivalent key)
-            (prepared_ref self.entry) (raw_view result) }
+            (prepared_map_ref self.entry) (raw_view result) }
     {
         uncounted!(self.from_key_hashed_nocheck_counted(hash, key))
     }
@@ -244,8 +244,8 @@ impl<'a, K: Eq + Hash, V, S: KeyHasher<K>, L: Limit> RawEntryBuilderMut<'a, K, V
         requires { (prepared_map self).is_vec ≡ false
             → hash ≡ S.hash_writes (prepared_map self).builder (Q.hash_input key) }
         ensures searches { FindsRawEntry L.LIMIT K.eq (Q.equivalent key)
-            (prepared_ref self.entry) (raw_view result) }
-        ensures cost { IsHashedLookupCost S.KeyHasher Q.hash_input Q.equivalent key (prepared_map self.entry)
+            (prepared_map_ref self.entry) (raw_view result) }
+        ensures cost { IsLookupCostByHash S.KeyHasher Q.hash_input Q.equivalent key (prepared_map self.entry)
             tally.old tally.new }
     {
         let RawEntryBuilderMut::Prepared(prepared) = self;
@@ -259,7 +259,7 @@ impl<'a, K: Eq + Hash, V, S: KeyHasher<K>, L: Limit> RawEntryBuilderMut<'a, K, V
         }
     }
 
-    /// Returns the entry of a pair whose key `is_match` accepts, or a vacant entry exactly where there is no such pair. In
+    /// Returns the entry of a pair whose key `is_match` accepts, or a vacant entry exactly if there is no such pair. In
     /// a vector it is the first such pair, whatever the hash. In a table it is one among those of this hash. Any hash
     /// may be given.
     ///
@@ -274,7 +274,7 @@ impl<'a, K: Eq + Hash, V, S: KeyHasher<K>, L: Limit> RawEntryBuilderMut<'a, K, V
     pub fn from_hash<F: Fn(&K) -> bool>(self, hash: u64, is_match: F) -> RawEntryMut<'a, K, V, S, L>
         requires { CallableOnKeys (F.pre is_match) (keys_of (prepared_map self).pairs) }
         ensures { FindsRawEntryByMatch L.LIMIT K.eq (FnReturnsAt F.Fn is_match)
-            S.hash hash (prepared_ref self.entry) (raw_view result) }
+            S.hash hash (prepared_map_ref self.entry) (raw_view result) }
     {
         uncounted!(self.from_hash_counted(hash, is_match))
     }
@@ -289,7 +289,7 @@ impl<'a, K: Eq + Hash, V, S: KeyHasher<K>, L: Limit> RawEntryBuilderMut<'a, K, V
     ) -> RawEntryMut<'a, K, V, S, L>
         requires { CallableOnKeys (F.pre is_match) (keys_of (prepared_map self).pairs) }
         ensures searches { FindsRawEntryByMatch L.LIMIT K.eq (FnReturnsAt F.Fn is_match)
-            S.hash hash (prepared_ref self.entry) (raw_view result) }
+            S.hash hash (prepared_map_ref self.entry) (raw_view result) }
         ensures cost { IsMatchCost S.hash hash (prepared_map self.entry)
             (entry_pair (raw_view result)) tally.old tally.new }
     {

@@ -7,9 +7,9 @@ use super::{Error, Value};
 use std::mem;
 
 impl Value {
-    /// Gives the member or the item that a path leads to a new value, and returns the value that it had. All else stays. It
-    /// fails with `NotThere` where the path leads to nothing, and then nothing changes: no member and no item is added. It
-    /// follows the path twice.
+    /// Sets the value of the member or the item that a path leads to, and returns the value that it had. Nothing besides
+    /// changes. It fails with `NotThere` if the path leads to nothing, and then nothing changes: no member and no item is
+    /// added. It follows the path twice.
     ///
     /// ```
     /// let before = order.set_at("/items/0/name", Value::Null)?;
@@ -32,7 +32,7 @@ impl Value {
             .ok_or(Error::NotThere)
     }
 
-    // Gives what these steps lead to a new value, and returns the value that it had.
+    // Sets the value that these steps lead to, and returns the one that was there.
     fn set_steps(&mut self, steps: Option<&str>, value: Value) -> Option<Value>
         ensures before { result ≡ descendant self.old (steps_of (option_copied steps.entry)) }
         ensures after { OnSome result (self.new

@@ -8,8 +8,9 @@ use super::Value;
 use halfbrown::HashMap;
 
 impl Value {
-    /// The value that a path leads to, or none where it leads to none: where a step names no member or no item, where the path
-    /// is not empty and begins with no slash, and where a `~` in it is no escape. It costs one look-up for each step.
+    /// Returns the value that a path leads to, or none if it leads to none. That is so if a step names no member or no item,
+    /// or has a `~` that is no escape. It is also so if the path is not empty and begins with no slash. It costs one look-up
+    /// for each step.
     ///
     /// ```
     /// let document = Value::parse(alloc, r#"{"a/b": [1], "m~n": 8}"#)?;
@@ -101,8 +102,8 @@ fn stands_for(step: &[u8], name: &[u8]) -> bool
     rest.is_empty()
 }
 
-// The first byte of the name that a step stands for, and the rest of the step. None where the step ends, and where it begins with
-// a `~` that is no escape.
+// The first byte of the name that a step stands for, and the rest of the step. None if the step ends, or begins with a `~` that
+// is no escape.
 fn first_byte(step: &[u8]) -> Option<(u8, &[u8])>
     ensures some { IfSome result (λ first. name_of step.now ≡ option_map (λ name. first.0 ∷ name) (name_of first.1.now)) }
     ensures none { IfNone result (IfSome (name_of step.now) (λ name. name ≡ [])) }

@@ -10,7 +10,7 @@ use json::Scratch;
 use std::alloc::Global;
 
 impl Value {
-    /// Reads a text. Of members of one name the last value wins, at the place of the first. It fails with `Invalid` where the
+    /// Reads a text. If members share a name, the last value wins, at the place of the first. It fails with `Invalid` if the
     /// text is no JSON or nests more than 128 deep, and with `Memory`. It costs time and memory that grow with the text.
     ///
     /// ```

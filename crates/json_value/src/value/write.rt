@@ -10,9 +10,9 @@ use json::{MAX_DEPTH, Writer, is_number};
 use std::alloc::Global;
 
 impl Value {
-    /// Its text, with no space and the members in order, which reads back as this value. It fails with `Invalid` where a
-    /// number is not written as one, and where lists and objects nest more than 128 deep, and with `Memory`. It costs time
-    /// and memory that grow with the text.
+    /// Returns its text, with no space and the members in order, which reads back as this value. It fails with `Invalid`
+    /// if a number is not written as one, or if lists and objects nest more than 128 deep, and with `Memory`. It costs
+    /// time and memory that grow with the text.
     ///
     /// ```
     /// let text = Value::parse(alloc, r#"{"a": 1}"#)?.to_string(alloc)?; // {"a":1}

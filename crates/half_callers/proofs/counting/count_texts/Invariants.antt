@@ -1,7 +1,7 @@
 use Rattle.std.proofs.Common.{map, take}
 use Rattle.std.specs.Str.{bytes_eq}
 use Rattle.std.specs.String.{string_bytes}
-use Rattle.halfbrown.specs.CallerLoops.{CountsEach, keyed_by}
+use Rattle.halfbrown.specs.ByKey.{CountsEach, keyed_by}
 use Rattle.half_callers.proofs.counting.count_texts.Given as goal
 
 abbrev pub invariant-loop-word : goal.invariant-loop-word

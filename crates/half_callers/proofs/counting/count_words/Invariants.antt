@@ -1,5 +1,5 @@
 use Rattle.std.proofs.Common.{take}
-use Rattle.halfbrown.specs.CallerLoops.{CountsEach}
+use Rattle.halfbrown.specs.ByKey.{CountsEach}
 use Rattle.half_callers.proofs.counting.count_words.Given as goal
 
 abbrev pub invariant-loop-word : goal.invariant-loop-word

@@ -1,5 +1,5 @@
 use Rattle.std.proofs.Common.{take}
-use Rattle.halfbrown.specs.CallerLoops.{GroupsEach}
+use Rattle.halfbrown.specs.ByKey.{GroupsEach}
 use Rattle.half_callers.proofs.counting.group.Given as goal
 
 abbrev pub invariant-loop-key : goal.invariant-loop-key

@@ -1,5 +1,5 @@
 use Rattle.std.proofs.Common.{take}
-use Rattle.halfbrown.specs.CallerLoops.{SumsEach}
+use Rattle.halfbrown.specs.ByKey.{SumsEach}
 use Rattle.half_callers.proofs.counting.sum_by_key.Given as goal
 
 abbrev pub invariant-loop-key : goal.invariant-loop-key

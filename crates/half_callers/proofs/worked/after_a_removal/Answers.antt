@@ -1,37 +1,29 @@
 use Rattle.std.proofs.Common.{◌∷◌, [], refl}
 use Rattle.std.specs.Hash.{le_bytes}
 use Rattle.half_store.specs.Reach.{probe_distance, bucket_after, load, loaded_within, loaded_run, reach}
-use Rattle.half_store.specs.Capacity.{least_buckets}
-use Rattle.test_support.specs.declared.builders.Rule.{Rule}
-use Rattle.half_callers.specs.Tables.{IsTableOf, twins}
-use Rattle.half_callers.proofs.Searches.{missing}
-use Rattle.half_callers.proofs.Tables.{table_without}
+use Rattle.half_callers.proofs.Searches.{exact, sought, table_without}
 use Rattle.half_callers.proofs.worked.after_a_removal.Goals as goal
 
 pub returns-clause-of_8 : goal.returns-clause-of_8
-unfolding le_bytes probe_distance bucket_after load loaded_within loaded_run reach least_buckets
+unfolding le_bytes probe_distance bucket_after load loaded_within loaded_run reach
 returns-clause-of_8 c =
-    let table : IsTableOf Rule.Plain (twins (6 ∷ 14 ∷ 7 ∷ 15 ∷ 0 ∷ [])) 6 c.in_ok-map.map = c.in_ok-map.ensures in
-    let left = table_without _ _ _ 6 c.in_ok-map.map table c.remove.new.self c.remove.ensures.after in
-    missing _ _ _ 8 c.remove.new.self left _ _ c.get_counted.ensures.cost refl
+    let left = table_without _ _ _ c.args.map.now c.requires 6 (0 ∷ 14 ∷ 7 ∷ 15 ∷ []) refl c.remove.new.self c.remove.ensures.after in
+    exact 1 0 3 _ _ (sought _ _ _ _ left 8 _ _ c.get_counted.ensures.cost)
 
 pub returns-clause-of_22 : goal.returns-clause-of_22
-unfolding le_bytes probe_distance bucket_after load loaded_within loaded_run reach least_buckets
+unfolding le_bytes probe_distance bucket_after load loaded_within loaded_run reach
 returns-clause-of_22 c =
-    let table : IsTableOf Rule.Plain (twins (6 ∷ 14 ∷ 7 ∷ 15 ∷ 0 ∷ [])) 6 c.in_ok-map.map = c.in_ok-map.ensures in
-    let left = table_without _ _ _ 6 c.in_ok-map.map table c.remove.new.self c.remove.ensures.after in
-    missing _ _ _ 22 c.remove.new.self left _ _ c.get_counted-2.ensures.cost refl
+    let left = table_without _ _ _ c.args.map.now c.requires 6 (0 ∷ 14 ∷ 7 ∷ 15 ∷ []) refl c.remove.new.self c.remove.ensures.after in
+    exact 1 0 5 _ _ (sought _ _ _ _ left 22 _ _ c.get_counted-2.ensures.cost)
 
 pub returns-clause-of_23 : goal.returns-clause-of_23
-unfolding le_bytes probe_distance bucket_after load loaded_within loaded_run reach least_buckets
+unfolding le_bytes probe_distance bucket_after load loaded_within loaded_run reach
 returns-clause-of_23 c =
-    let table : IsTableOf Rule.Plain (twins (6 ∷ 14 ∷ 7 ∷ 15 ∷ 0 ∷ [])) 6 c.in_ok-map.map = c.in_ok-map.ensures in
-    let left = table_without _ _ _ 6 c.in_ok-map.map table c.remove.new.self c.remove.ensures.after in
-    missing _ _ _ 23 c.remove.new.self left _ _ c.get_counted-3.ensures.cost refl
+    let left = table_without _ _ _ c.args.map.now c.requires 6 (0 ∷ 14 ∷ 7 ∷ 15 ∷ []) refl c.remove.new.self c.remove.ensures.after in
+    exact 1 0 4 _ _ (sought _ _ _ _ left 23 _ _ c.get_counted-3.ensures.cost)
 
 pub returns-clause-of_3 : goal.returns-clause-of_3
-unfolding le_bytes probe_distance bucket_after load loaded_within loaded_run reach least_buckets
+unfolding le_bytes probe_distance bucket_after load loaded_within loaded_run reach
 returns-clause-of_3 c =
-    let table : IsTableOf Rule.Plain (twins (6 ∷ 14 ∷ 7 ∷ 15 ∷ 0 ∷ [])) 6 c.in_ok-map.map = c.in_ok-map.ensures in
-    let left = table_without _ _ _ 6 c.in_ok-map.map table c.remove.new.self c.remove.ensures.after in
-    missing _ _ _ 3 c.remove.new.self left _ _ c.get_counted-4.ensures.cost refl
+    let left = table_without _ _ _ c.args.map.now c.requires 6 (0 ∷ 14 ∷ 7 ∷ 15 ∷ []) refl c.remove.new.self c.remove.ensures.after in
+    exact 1 0 1 _ _ (sought _ _ _ _ left 3 _ _ c.get_counted-4.ensures.cost)

@@ -1,4 +1,5 @@
--- What a step does to pairs and capacity: it puts a pair, or keeps the capacity and adds none, or has_shrink. A `Reserve` is left out.
+-- What a step does to pairs and capacity: it puts a pair, or keeps the capacity and adds none, or shrinks. `Reserve` is left
+-- out.
 use Rattle.std.proofs.Common.{◌≡◌, ℕ, ◌+◌, ◌≤◌, nat_lt, ◌⊎◌, inl, inr, Bool, true, false, cond, length, Option, None, Some, ap, refl, arith}
 use Rattle.std.proofs.Common.{if◌then◌else◌}
 use Rattle.std.proofs.lemmas.Grind.{common_steps}
@@ -8,7 +9,7 @@ use Rattle.halfbrown.specs.declared.run.Command.{Command}
 use Rattle.halfbrown.specs.declared.run.Command.TheVariants.{InsertNew}
 use Rattle.halfbrown.specs.declared.run.Reply.{Reply}
 use Rattle.halfbrown.specs.declared.run.Reply.TheVariants.{Refused}
-use Rattle.halfbrown.specs.Growth.{growth_needs, new_key_needs, insert_needs, is_full, IsShrunk}
+use Rattle.halfbrown.specs.Growth.{capacity_for_growth, capacity_for_new_key, capacity_for_insert, is_full, IsShrunk}
 use Rattle.halfbrown.specs.Insertion.{Puts}
 use Rattle.halfbrown.specs.Pairs.{holds}
 use Rattle.halfbrown.specs.State.{State}
@@ -24,17 +25,17 @@ cond_least true n len e = omega arith
 cond_least false n len e = omega arith
 
 module _ {K V S : Type 0} where
-  -- capacity is asked for one pair more, where none is left
+  -- capacity is asked only for one pair more, and only if none is left
   abbrev pub IsDue : State K V S → Option ℕ → Type 0
   IsDue m needs = IfSome needs (λ n. (n ≡ length m.pairs + 1) × (m.capacity ≤ length m.pairs))
 
-  addition_due : (m : State K V S) → IsDue m (growth_needs m)
+  addition_due : (m : State K V S) → IsDue m (capacity_for_growth m)
   addition_due m = by (nat_lt (length m.pairs) m.capacity) (not_less (length m.pairs) m.capacity) where
     by : (few : Bool) → (few ≡ false → m.capacity ≤ length m.pairs) → IsDue m (if few then None else Some (length m.pairs + 1))
     by true h = tt
     by false h = (refl, h refl)
 
-  held_due : (m : State K V S) (held : Bool) → IsDue m (if held then None else growth_needs m)
+  held_due : (m : State K V S) (held : Bool) → IsDue m (if held then None else capacity_for_growth m)
   held_due m true = tt
   held_due m false = addition_due m
 
@@ -68,15 +69,15 @@ module _ {K V S : Type 0} (limit : ℕ) (eq : K → K → Bool) where
   puts_due old new k v needs due puts = record { key = k; value = v; needs = needs; due = due; puts = puts }
 
   -- by an insertion of k, and of a new key
-  puts_any : (old new : State K V S) (k : K) (v : V) → Puts limit eq old k v (insert_needs limit eq old k) new → PutsDue old new
+  puts_any : (old new : State K V S) (k : K) (v : V) → Puts limit eq old k v (capacity_for_insert limit eq old k) new → PutsDue old new
   puts_any old new k v =
-      puts_due old new k v (if holds eq old.pairs k then None else growth_needs old) (held_due old (holds eq old.pairs k))
+      puts_due old new k v (if holds eq old.pairs k then None else capacity_for_growth old) (held_due old (holds eq old.pairs k))
 
-  puts_new : (old new : State K V S) (k : K) (v : V) → Puts limit eq old k v (new_key_needs limit old) new → PutsDue old new
-  puts_new old new k v = puts_due old new k v (growth_needs old) (addition_due old)
+  puts_new : (old new : State K V S) (k : K) (v : V) → Puts limit eq old k v (capacity_for_new_key limit old) new → PutsDue old new
+  puts_new old new k v = puts_due old new k v (capacity_for_growth old) (addition_due old)
 
   held_changes : (old new : State K V S) (k : K) (v : V) (held : Bool)
-      → MatchBool held (new ≡ old) (Puts limit eq old k v (new_key_needs limit old) new) → Changes old (InsertNew k v) new
+      → MatchBool held (new ≡ old) (Puts limit eq old k v (capacity_for_new_key limit old) new) → Changes old (InsertNew k v) new
   held_changes old new k v true leaves = inr (inl (keeps_all old new leaves))
   held_changes old new k v false leaves = inl (puts_new old new k v leaves)
 

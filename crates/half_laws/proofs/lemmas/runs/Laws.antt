@@ -18,7 +18,7 @@ last_of_both : (last earlier : Option Bool) (first : Bool)
 last_of_both None earlier first = refl
 last_of_both (Some is_vec) earlier first = refl
 
--- nothing switches where neither a step nor what follows it does
+-- nothing switches if neither a step nor what follows it does
 neither_switches : (v now later : Bool) → ((v && not now) && not later) ≡ (v && not (now || later))
 neither_switches v now later = grind (arith, common_steps)
 

@@ -2,7 +2,7 @@
 use Rattle.std.proofs.Common.{◌≡◌, ℕ, zero, suc, ◌+◌, ◌*◌, ◌≤◌, max, inl, inr, Bool, true, false, ◌&&◌, List, [], ◌∷◌, length, fold, Option}
 use Rattle.std.proofs.Common.{None, Some, sym, ap, refl, subst, arith, if◌then◌else◌}
 use Rattle.std.proofs.lemmas.Grind.{common_steps}
-use Rattle.half_store.specs.Capacity.{IsBucketCount, capacity_of, buckets_of, buckets_for_more, least_buckets, least_table_capacity}
+use Rattle.half_store.specs.Capacity.{IsBucketCount, capacity_of, buckets_of, bucket_count_for_one_more, least_buckets, least_table_capacity}
 use Rattle.half_store.specs.Capacity.{least_capacity, is_vec_shrunk}
 use Rattle.half_store.specs.Arrays.{bytes}
 use Rattle.half_store.specs.Words.{word_size}
@@ -16,7 +16,7 @@ use Rattle.half_laws.specs.RunLaws.{CapacityLaw, BytesLaw, is_reserve, has_reser
 use Rattle.half_laws.proofs.lemmas.runs.Changes.{IsDue, Changes, step_changes}
 
 -- the next of the series is twice as large, or 3
-more_most : (n m : ℕ) → IsBucketCount m → capacity_of m ≤ 2 * n + 1 → capacity_of (buckets_for_more n m) ≤ 2 * suc n + 1
+more_most : (n m : ℕ) → IsBucketCount m → capacity_of m ≤ 2 * n + 1 → capacity_of (bucket_count_for_one_more n m) ≤ 2 * suc n + 1
 more_most n m count few = grind (arith, common_steps)
 
 capacity_for-most : (n : ℕ) → least_table_capacity n ≤ 2 * n + 1

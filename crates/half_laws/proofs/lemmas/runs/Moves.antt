@@ -4,8 +4,8 @@ use Rattle.std.proofs.Common.{[], ◌∷◌, length, sum_by, Option, Some, ap, s
 use Rattle.std.proofs.lemmas.Grind.{common_steps}
 use Rattle.std.proofs.lemmas.Bool.{cases_lt, eq-eqb, le-ltb}
 use Rattle.std.proofs.lemmas.List.Sums.{sum_by-cons}
-use Rattle.half_store.specs.Capacity.{IsBucketCount, capacity_of, more_buckets, least_buckets, least_table_capacity, generous_capacity}
-use Rattle.half_store.proofs.lemmas.capacity.{more_buckets-some, buckets_for-least, buckets_for-grown, quarter}
+use Rattle.half_store.specs.Capacity.{IsBucketCount, capacity_of, next_bucket_count, least_buckets, least_table_capacity, grown_capacity}
+use Rattle.half_store.proofs.lemmas.capacity.{next_bucket_count-some, buckets_for-least, buckets_for-grown, quarter}
 use Rattle.halfbrown.specs.Growth.{is_full, capacity_after}
 use Rattle.halfbrown.specs.Pairs.{put}
 use Rattle.halfbrown.specs.Run.{StepsLead, has_shrink, commands_of, Step, IsValidStep, is_shrink}
@@ -17,11 +17,11 @@ use Rattle.half_laws.specs.RunLaws.{MovesLaw, is_reserve, has_reserve, moved}
 use Rattle.half_laws.proofs.lemmas.runs.Memory.{first_of_both}
 use Rattle.half_laws.proofs.lemmas.runs.Changes.{IsDue, PutsDue, Changes, step_changes}
 
--- twice the capacity, where a table grows
-double : (m : ℕ) → IsBucketCount m → 2 * capacity_of m ≤ capacity_of (more_buckets m)
+-- twice the capacity, when a table grows
+double : (m : ℕ) → IsBucketCount m → 2 * capacity_of m ≤ capacity_of (next_bucket_count m)
 double m count =
     elim (cases_lt 0 m) [
-      | inl some ↦ rw (more_buckets-some m some) (let q = quarter m count in omega (arith, q.1))
+      | inl some ↦ rw (next_bucket_count-some m some) (let q = quarter m count in omega (arith, q.1))
       | inr none ↦ omega arith
     ]
 
@@ -77,7 +77,7 @@ module _ {K V S : Type 0} (limit : ℕ) (eq : K → K → Bool) where
     switch_pays full form capacity = grind (arith, common_steps, buckets_for-least, budget_high, first_of_both, full_len, moves)
 
     vector_pays : is_full limit old ≡ false → old.is_vec ≡ true → new.is_vec ≡ old.is_vec → old.capacity ≤ length old.pairs
-        → new.capacity ≡ generous_capacity limit old.capacity (length old.pairs + 1) → Pays old new
+        → new.capacity ≡ grown_capacity limit old.capacity (length old.pairs + 1) → Pays old new
     vector_pays full vec form filled capacity = grind (arith, common_steps)
 
     table_pays : old.is_vec ≡ false → new.is_vec ≡ old.is_vec → old.capacity ≤ length old.pairs

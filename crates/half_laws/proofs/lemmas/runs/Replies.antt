@@ -1,4 +1,5 @@
--- What decides the replies: form and pairs before a command, the command, and the refusal decide its reply, and form and pairs after it.
+-- What decides the replies: form and pairs before a command, the command, and the refusal. They also decide form and pairs
+-- after it.
 use Rattle.std.proofs.Common.{◌≡◌, ◌∙◌, ℕ, Bool, not, ◌&&◌, List, [], ◌∷◌, Option, None, Some, unwrap_or, arith, ap, sym, refl, if◌then◌else◌}
 use Rattle.std.proofs.lemmas.Grind.{common_steps}
 use Rattle.half_store.specs.declared.refusal.Refusal.{Refusal}
@@ -6,7 +7,7 @@ use Rattle.halfbrown.specs.declared.run.Command.{Command}
 use Rattle.halfbrown.specs.declared.run.Command.TheVariants.{Insert, InsertNew, EntryOrInsert, RawOrInsert, Remove, Clear}
 use Rattle.halfbrown.specs.declared.run.Reply.{Reply}
 use Rattle.halfbrown.specs.declared.run.Reply.TheVariants.{Refused}
-use Rattle.halfbrown.specs.Pairs.{holds, put, take_out}
+use Rattle.halfbrown.specs.Pairs.{holds, put, swap_out}
 use Rattle.halfbrown.specs.State.{State}
 use Rattle.halfbrown.specs.Run.{Step, Executes, IsValidStep, Leaves, value_or, granted_reply, refusal_in, is_shrink}
 use Rattle.half_laws.proofs.lemmas.runs.Laws.{form_of_step}
@@ -19,7 +20,7 @@ module _ {K V : Type 0} (limit : ℕ) (eq : K → K → Bool) where
   pairs_after pairs (InsertNew k v) = if holds eq pairs k then pairs else put eq pairs k v
   pairs_after pairs (EntryOrInsert k v) = put eq pairs k (value_or eq pairs k v)
   pairs_after pairs (RawOrInsert k v) = put eq pairs k (value_or eq pairs k v)
-  pairs_after pairs (Remove k) = take_out eq pairs k
+  pairs_after pairs (Remove k) = swap_out eq pairs k
   pairs_after pairs Clear = []
   pairs_after pairs command = pairs
 

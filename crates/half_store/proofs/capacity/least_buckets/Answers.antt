@@ -1,6 +1,6 @@
 use Rattle.half_store.proofs.Common.{◌≡◌, ◌*◌, inr, refl, ◌∙◌, arith, common_steps}
-use Rattle.half_store.specs.Capacity.{more_buckets, least_buckets}
-use Rattle.half_store.proofs.lemmas.capacity.{buckets_for-is, four-le_count, more_buckets-count, more_buckets-some, more_buckets-least}
+use Rattle.half_store.specs.Capacity.{next_bucket_count, least_buckets}
+use Rattle.half_store.proofs.lemmas.capacity.{buckets_for-is, four-le_count, next_bucket_count-count, next_bucket_count-some, next_bucket_count-least}
 use Rattle.half_store.proofs.lemmas.capacity.{capacity_of-below}
 use Rattle.half_store.proofs.capacity.least_buckets.Goals as goal
 
@@ -20,12 +20,12 @@ pub loop-buckets-preserved : goal.loop-buckets-preserved
 loop-buckets-preserved c =
     let i = c.loop-buckets.invariant in
     let b = c.loop-buckets.buckets in
-    let d : more_buckets b ≡ b * 2 = more_buckets-some b (omega arith) ∙ omega arith in
+    let d : next_bucket_count b ≡ b * 2 = next_bucket_count-some b (omega arith) ∙ omega arith in
     record {
-      count = rw (← d) (more_buckets-count b i.count);
+      count = rw (← d) (next_bucket_count-count b i.count);
       some = omega arith;
       small = omega arith;
-      least = λ o is s. let m = more_buckets-least b o i.count is (capacity_of-below b o (omega arith)) in omega arith;
+      least = λ o is s. let m = next_bucket_count-least b o i.count is (capacity_of-below b o (omega arith)) in omega arith;
     }
 
 pub returns-clause-value : goal.returns-clause-value

@@ -7,7 +7,7 @@ use Rattle.std.specs.Map.{keys_of}
 use Rattle.half_store.specs.declared.store.find.Found.{Found}
 use Rattle.half_store.specs.declared.store.find.Vacancy.{Vacancy}
 use Rattle.half_store.specs.declared.vecmap.search.Scan.{Scan}
-use Rattle.half_store.specs.Search.{IsFirstMatch, StoreSearch, ComparesInOrder, IsStoreSearchCost}
+use Rattle.half_store.specs.Search.{IsFirstMatch, StoreSearch, IsVectorSearchCost, IsStoreSearchCost}
 use Rattle.half_store.specs.Store.{StoreState, TableFitsColumns}
 use Rattle.half_store.specs.Table.{IsTableSearchCost}
 
@@ -26,11 +26,11 @@ module _ {K V : Type 0} (columns : ColumnsState K V) {keys : List K} (same : key
 
   -- what a search of a vector costs
   pub vector_cost : {s : StoreState K V} → vector_of columns ≡ s → {hash : ℕ} {scan : Scan} {found : Option ℕ} {old new : Work}
-      → ComparesInOrder scan found (length keys) old new → IsStoreSearchCost s hash scan found old new
+      → IsVectorSearchCost scan found (length keys) old new → IsStoreSearchCost s hash scan found old new
   vector_cost is {hash} {scan} {found} {old} {new} work =
       subst (λ (s : StoreState K V). IsStoreSearchCost s hash scan found old new) is
       (record {
-        vector = λ form. subst (λ n. ComparesInOrder scan found n old new) (ap length same ∙ length-keys_of columns.pairs) work;
+        vector = λ form. subst (λ n. IsVectorSearchCost scan found n old new) (ap length same ∙ length-keys_of columns.pairs) work;
         table = λ form. absurd (true≢false form);
         buckets = λ form. absurd (true≢false form);
       })

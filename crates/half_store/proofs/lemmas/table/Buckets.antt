@@ -26,7 +26,7 @@ pub slots_from-set : (hashes words : List ℕ) (bucket word : ℕ)
     → slots_from hashes (set words bucket word) ≡ set (slots_from hashes words) bucket (hash_of_word hashes word)
 slots_from-set hashes words bucket word = map-set (hash_of_word hashes) words bucket word
 
--- slots are the same where each is
+-- two lists of slots are equal if each bucket's word has the same hash in both
 pub slots_from-same : (hashes hashes' words words' : List ℕ) → length words ≡ length words'
     → ((bucket : ℕ) → hash_of_word hashes (slice_index words bucket) ≡ hash_of_word hashes' (slice_index words' bucket))
     → slots_from hashes words ≡ slots_from hashes' words'

@@ -55,14 +55,14 @@ module _ (m a : ℕ) (in_a : a < m) where
   pub down-probe_distance : (b : ℕ) → b < m → bucket_after m a (m - probe_distance m b a) ≡ b
   down-probe_distance b h = omega (arith, distance_is m b a h, after_is m a (m - probe_distance m b a))
 
--- where another bucket is still ahead, the next one is one farther
+-- if another bucket is still ahead, the next one is one farther
 pub next_farther : (m a b ahead next : ℕ) → a < m → b < m → ahead < m → probe_distance m a b < probe_distance m a ahead
     → next ≡ bucket_after m b 1
     → probe_distance m a next ≡ probe_distance m a b + 1
 next_farther m a b ahead next in_a in_b in_ahead far e =
     omega (arith, after_is m b 1, distance_is m a b in_a, distance_is m a next in_a, distance_is m a ahead in_a)
 
--- a home from which p comes before e lies no farther from b than e does, where p does not
+-- a home from which p comes before e lies no farther from b than e does, if p does not
 pub home_in_stretch : (m h p e b : ℕ) → h < m → p < m → e < m → b < m → probe_distance m h p < probe_distance m h e
     → probe_distance m p b < probe_distance m e b → probe_distance m h b < probe_distance m e b
 home_in_stretch m h p e b in_h in_p in_e in_b x y =

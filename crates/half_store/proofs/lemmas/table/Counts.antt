@@ -1,12 +1,66 @@
--- Counting the buckets that pass a test.
-use Rattle.half_store.proofs.Common.{◌≡◌, ◌≤◌, length, take, ◌+◌, inr, refl, ◌∙◌, arith, ℕ, ◌-◌, ◌<◌, zero, suc, inl, sym, ap, Bool, List, get_or, ◌≢◌, true}
-use Rattle.half_store.proofs.Common.{false, count_by, ◌⊎◌, cond, cases_lt, cases_eq, lt-ltb, le-ltb, common_steps, take_all, probe_distance}
+-- Sums over buckets, and counting those that pass a test.
+use Rattle.half_store.proofs.Common.{◌≡◌, ◌≤◌, length, ◌+◌, ◌*◌, [], ◌∷◌, inr, refl, ◌∙◌, arith, ℕ, ◌-◌, ◌<◌, zero, suc, inl, sym, ap, Bool, List, get_or, ◌≢◌, true}
+use Rattle.half_store.proofs.Common.{false, count_by, ◌⊎◌, cond, cases_lt, cases_eq, lt-ltb, le-ltb, common_steps, sum_by-cons, probe_distance}
 use Rattle.std.proofs.Common.{ltb}
-use Rattle.std.proofs.Common.{min}
-use Rattle.std.proofs.lemmas.List.Sums.{sum_by_more}
+use Rattle.std.proofs.Common.{min, sum_by}
+use Rattle.half_store.specs.Work.{sum_below}
 use Rattle.half_store.proofs.lemmas.table.Circle.{distance_is}
 
--- 1 where a test passes
+-- Sums over the numbers below one.
+pub below-same : (m : ℕ) (f g : ℕ → ℕ) → ((k : ℕ) → k < m → f k ≡ g k) → sum_below m f ≡ sum_below m g
+below-same zero f g h = refl
+below-same (suc m) f g h = grind (arith, common_steps, h m (omega arith), below-same m f g (λ k l. h k (omega arith)))
+
+pub below-plus : (m : ℕ) (f g : ℕ → ℕ) → sum_below m (λ k. f k + g k) ≡ sum_below m f + sum_below m g
+below-plus zero f g = refl
+below-plus (suc m) f g = omega (arith, below-plus m f g)
+
+pub below-const : (m c : ℕ) → sum_below m (λ k. c) ≡ m * c
+below-const zero c = omega arith
+below-const (suc m) c = grind (arith, common_steps, below-const m c)
+
+pub below-swap : (m n : ℕ) (f : ℕ → ℕ → ℕ) → sum_below m (λ a. sum_below n (λ b. f a b)) ≡ sum_below n (λ b. sum_below m (λ a. f a b))
+below-swap zero n f = sym (below-const n 0 ∙ omega arith)
+below-swap (suc m) n f = ap (λ s. sum_below n (f m) + s) (below-swap m n f) ∙ sym (below-plus n (f m) (λ b. sum_below m (λ a. f a b)))
+
+-- the last term of a sum is that of 0
+pub below-first : (m : ℕ) (f : ℕ → ℕ) → sum_below (suc m) f ≡ f 0 + sum_below m (λ k. f (suc k))
+below-first zero f = omega arith
+below-first (suc m) f = omega (arith, below-first m f)
+
+pub below-zero : (m : ℕ) (f : ℕ → ℕ) → ((k : ℕ) → k < m → f k ≡ 0) → sum_below m f ≡ 0
+below-zero m f none = below-same m f (λ k. 0) none ∙ below-const m 0 ∙ omega arith
+
+-- one term is no longer 0
+pub below-more : (m x : ℕ) (f g : ℕ → ℕ) → x < m → f x ≡ 0 → ((k : ℕ) → k < m → k ≢ x → f k ≡ g k)
+    → sum_below m g ≡ sum_below m f + g x
+below-more zero x f g l none same = absurd (omega arith)
+below-more (suc m) x f g l none same =
+    elim (cases_eq x m) [
+      | inl e ↦
+          let rest = below-same m f g (λ k l. same k (omega arith) (omega arith)) in
+          let old = ap f e in
+          let new = ap g e in
+          omega arith
+      | inr ne ↦
+          let rest = below-more m x f g (omega arith) none (λ k l. same k (omega arith)) in
+          let own = same m (omega arith) (omega arith) in
+          omega arith
+    ]
+
+-- all terms but one are 0
+pub below-one : (m x : ℕ) (f : ℕ → ℕ) → x < m → ((k : ℕ) → k < m → k ≢ x → f k ≡ 0) → sum_below m f ≡ f x
+below-one m x f l none =
+    let more = below-more m x (λ k. 0) f l refl (λ k l ne. sym (none k l ne)) in
+    omega (arith, below-const m 0)
+
+-- a sum over a list, by indices
+pub sum_by-below : {X : Type 0} (f : X → ℕ) (xs : List X) (d : X) → sum_by f xs ≡ sum_below (length xs) (λ p. f (get_or xs p d))
+sum_by-below f [] d = refl
+sum_by-below f (x ∷ xs) d =
+    sum_by-cons f x xs ∙ ap (λ s. f x + s) (sum_by-below f xs d) ∙ sym (below-first (length xs) (λ p. f (get_or (x ∷ xs) p d)))
+
+-- 1 if a test passes
 abbrev pub tick : Bool → ℕ
 tick b = cond b 1 0
 
@@ -20,6 +74,10 @@ tick_no b e = rw e refl
 abbrev pub count_to : (ℕ → Bool) → ℕ → ℕ
 count_to Q zero = 0
 count_to Q (suc n) = tick (Q n) + count_to Q n
+
+count_to-below : (Q : ℕ → Bool) (n : ℕ) → count_to Q n ≡ sum_below n (λ p. tick (Q p))
+count_to-below Q zero = refl
+count_to-below Q (suc n) = ap (λ s. tick (Q n) + s) (count_to-below Q n)
 
 pub count_to-same : (Q R : ℕ → Bool) (n : ℕ) → ((p : ℕ) → p < n → Q p ≡ R p) → count_to Q n ≡ count_to R n
 count_to-same Q R zero h = refl
@@ -53,36 +111,16 @@ count_to-lt Q R (suc n) x l q r h =
 -- exactly one bucket more passes
 pub count_to_more : (Q R : ℕ → Bool) (n x : ℕ) → x < n → Q x ≡ false → R x ≡ true → ((p : ℕ) → p < n → p ≢ x → Q p ≡ R p)
     → count_to R n ≡ count_to Q n + 1
-count_to_more Q R zero x l q r h = absurd (omega arith)
-count_to_more Q R (suc n) x l q r h =
-    elim (cases_eq x n) [
-      | inl e ↦
-          let rest = count_to-same Q R n (λ p l. h p (omega arith) (omega arith)) in
-          let no = tick_no (Q n) (ap Q (sym e) ∙ q) in
-          let yes = tick_yes (R n) (ap R (sym e) ∙ r) in
-          omega arith
-      | inr ne ↦
-          let rest = count_to_more Q R n x (omega arith) q r (λ p l ne. h p (omega arith) ne) in
-          let here = ap tick (h n (omega arith) (omega arith)) in
-          omega arith
-    ]
+count_to_more Q R n x l q r h =
+    let more = below-more n x (λ p. tick (Q p)) (λ p. tick (R p)) l (tick_no _ q) (λ p l ne. ap tick (h p l ne)) in
+    omega (arith, count_to-below Q n, count_to-below R n, tick_yes _ r)
 
 pub count_to-none : (Q : ℕ → Bool) (n : ℕ) → ((p : ℕ) → p < n → Q p ≡ false) → count_to Q n ≡ 0
-count_to-none Q zero h = refl
-count_to-none Q (suc n) h = grind (arith, common_steps, tick_no, count_to-none Q n (λ p l. h p (omega arith)))
-
-count_by-take : {X : Type 0} (f : X → Bool) (xs : List X) (d : X) (n : ℕ) → n ≤ length xs
-    → count_by f (take n xs) ≡ count_to (λ p. f (get_or xs p d)) n
-count_by-take f xs d zero h = refl
-count_by-take f xs d (suc n) h =
-    let rest = count_by-take f xs d n (omega arith) in
-    let more = sum_by_more (λ x. tick (f x)) xs n d (omega arith) in
-    let one : suc n ≡ n + 1 = omega arith in
-    ap (λ k. count_by f (take k xs)) one ∙ more ∙ omega arith
+count_to-none Q n h = count_to-below Q n ∙ below-zero n (λ p. tick (Q p)) (λ p l. tick_no _ (h p l))
 
 -- a count over a list, by buckets
 pub count_by-count_to : {X : Type 0} (f : X → Bool) (xs : List X) (d : X) → count_by f xs ≡ count_to (λ p. f (get_or xs p d)) (length xs)
-count_by-count_to f xs d = ap (count_by f) (sym (take_all (length xs) xs (omega arith))) ∙ count_by-take f xs d (length xs) (omega arith)
+count_by-count_to f xs d = sum_by-below (λ x. tick (f x)) xs d ∙ sym (count_to-below (λ p. f (get_or xs p d)) (length xs))
 
 one_if : (s t : ℕ) → ((s < t) × (tick (ltb s t) ≡ 1)) ⊎ ((t ≤ s) × (tick (ltb s t) ≡ 0))
 one_if s t = elim (cases_lt s t) [ inl h ↦ inl (h, tick_yes _ (lt-ltb s t h)) | inr h ↦ inr (h, tick_no _ (le-ltb s t h)) ]

@@ -1,7 +1,7 @@
 -- Backward-shift deletion: what holds while the probe goes on, and that the order is whole again at its end.
 use Rattle.half_store.proofs.Common.{◌≡◌, ◌≤◌, length, ◌+◌, inr, ◌∙◌, arith, ℕ, ◌-◌, ◌<◌, inl, sym, ap, List, Some, slice_index, Option, None, subst, ◌≢◌, set}
 use Rattle.half_store.proofs.Common.{◌⊎◌, cases_eq, common_steps, length-set, same_Some, probe_distance, bucket_after, home, slots_from, slot_at, hash_of_word}
-use Rattle.half_store.proofs.Common.{EachOnce, HasVacantSlot, ProbeInvariant, IsIndexedWithGap, IsEmptyBeside}
+use Rattle.half_store.proofs.Common.{EachOnce, HasVacantSlot, ProbeInvariant, IsIndexedWithGap, IsOtherEmpty}
 use Rattle.std.proofs.lemmas.List.{set-set}
 use Rattle.half_store.specs.Table.{HasGap}
 use Rattle.half_store.proofs.lemmas.table.Buckets.{length-slots_from, hash_of_word-at, slot_of_word, slot_of_zero, word_set, word_other, within-at}
@@ -20,7 +20,7 @@ outside m start gap bucket h q in_start in_gap in_bucket in_h in_q off_gap off_b
 abbrev Before : ℕ → ℕ → ℕ → ℕ → Type 0
 Before m hash at other = probe_distance m (home m hash) at < probe_distance m (home m hash) other
 
--- what the buckets contain, where the gap counts as empty
+-- what the buckets contain, if the gap counts as empty
 abbrev around : List ℕ → List ℕ → ℕ → List (Option ℕ)
 around hashes words gap = slots_from hashes (set words gap 0)
 
@@ -53,7 +53,7 @@ module _ (m : ℕ) (hashes words : List ℕ) (start bucket : ℕ) (size : length
   in_start : start < m
   in_start = omega (arith, x.gap.within, long_start)
 
-  pub Ahead-start : (vacant : ℕ) → IsEmptyBeside (around hashes words start) start vacant → Ahead m hashes words start start bucket vacant
+  pub Ahead-start : (vacant : ℕ) → IsOtherEmpty (around hashes words start) start vacant → Ahead m hashes words start start bucket vacant
   Ahead-start vacant v = grind (arith, common_steps, after_is, distance_is, in_start, long_start)
 
   pub Shifts-start : Shifts m hashes words start start bucket

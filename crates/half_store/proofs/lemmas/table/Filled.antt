@@ -2,7 +2,7 @@
 use Rattle.half_store.proofs.Common.{◌≡◌, ◌≤◌, length, inr, refl, ◌∙◌, arith, ℕ, ◌-◌, ◌<◌, inl, sym, ap, Bool, List, Some, Option, None, subst, [], ◌∷◌, true}
 use Rattle.half_store.proofs.Common.{set, replicate, cases_lt, length-set, get_or_past, length-replicate, get_or-replicate, sum_by-cons, count_by-le-length}
 use Rattle.half_store.proofs.Common.{nat_lt, false, bucket_is_loaded, reach, filling_reach, probe_distance, bucket_after, home, slot_at, HasVacantSlot, ProbeInvariant, stored, IsSlotVacancy}
-use Rattle.half_store.proofs.Common.{probe_reads}
+use Rattle.half_store.proofs.Common.{reads_up_to}
 use Rattle.half_store.specs.Reach.{load}
 use Rattle.std.proofs.lemmas.List.Folds.{sum_by-replicate}
 use Rattle.std.proofs.lemmas.List.Sums.{sum_by-set}
@@ -53,7 +53,7 @@ module _ (w : List ℕ) (slots : List (Option ℕ)) (ordered : ProbeInvariant sl
       subst (IsSlotVacancy slots h) (sym (ap (bucket_after m (home m h)) far
       ∙ bucket_after-probe_distance m (home m h) (home-lt m h (omega arith)) v.0 v.1.within)) v.1
 
-  pub stop-reads : (h : ℕ) → probe_reads m h (stop m w h) ≡ reach w m h
+  pub stop-reads : (h : ℕ) → reads_up_to m h (stop m w h) ≡ reach w m h
   stop-reads h = sym (reach_at_vacancy slots ordered w counted h (stop m w h) (at_stop h))
 
   pub stop-unloaded : (h : ℕ) → bucket_is_loaded w m (stop m w h) ≡ false
@@ -98,8 +98,8 @@ module _ (m : ℕ) (w : List ℕ) (t : IsTableOf m w (slots_with m w)) (few : le
   at = subst (λ n. IsSlotVacancy (slots_with m w) x (stop n w x)) t.long
       (at_stop w (slots_with m w) t.ordered t.counted (subst (λ n. length w < n) (sym t.long) few) x)
 
-  reads : probe_reads m x (stop m w x) ≡ reach w m x
-  reads = subst (λ n. probe_reads n x (stop n w x) ≡ reach w n x) t.long
+  reads : reads_up_to m x (stop m w x) ≡ reach w m x
+  reads = subst (λ n. reads_up_to n x (stop n w x) ≡ reach w n x) t.long
       (stop-reads w (slots_with m w) t.ordered t.counted (subst (λ n. length w < n) (sym t.long) few) x)
 
 pub table_of : (m : ℕ) (w : List ℕ) → length w ≤ m → IsTableOf m w (slots_with m w)
@@ -137,16 +137,16 @@ module _ (m : ℕ) (w : List ℕ) (h : ℕ) (few : length w < m) where
 
 -- the searches for the pairs of that table read what the insertions did
 pub filled : (m : ℕ) (w : List ℕ) → length w ≤ m → slot_reads m (slots_with m w) ≡ filling_reach m w
-filled m [] few = below-zero m _ (λ p l. ap (of_slot (λ h. probe_reads m h p)) (all_vacant m p))
+filled m [] few = below-zero m _ (λ p l. ap (of_slot (λ h. reads_up_to m h p)) (all_vacant m p))
 filled m (x ∷ w) few =
     let t = table_of m w (omega arith) in
     let s : ℕ = stop m w x in
     let v = at m w t (omega arith) x in
     let in_s : s < m = subst (λ n. s < n) t.long v.within in
-    let more = below-more m s (λ p. of_slot (λ h. probe_reads m h p) (slot_at (slots_with m w) p))
-    (λ p. of_slot (λ h. probe_reads m h p) (slot_at (slots_with m (x ∷ w)) p)) in_s
-    (ap (of_slot (λ h. probe_reads m h s)) v.vacant)
-    (λ p l ne. ap (of_slot (λ h. probe_reads m h p)) (sym (slot_other (slots_with m w) s p (Some x) ne))) in
-    let own : of_slot (λ h. probe_reads m h s) (slot_at (slots_with m (x ∷ w)) s) ≡ probe_reads m x s =
-    ap (of_slot (λ h. probe_reads m h s)) (slot_set (slots_with m w) s (Some x) v.within) in
+    let more = below-more m s (λ p. of_slot (λ h. reads_up_to m h p) (slot_at (slots_with m w) p))
+    (λ p. of_slot (λ h. reads_up_to m h p) (slot_at (slots_with m (x ∷ w)) p)) in_s
+    (ap (of_slot (λ h. reads_up_to m h s)) v.vacant)
+    (λ p l ne. ap (of_slot (λ h. reads_up_to m h p)) (sym (slot_other (slots_with m w) s p (Some x) ne))) in
+    let own : of_slot (λ h. reads_up_to m h s) (slot_at (slots_with m (x ∷ w)) s) ≡ reads_up_to m x s =
+    ap (of_slot (λ h. reads_up_to m h s)) (slot_set (slots_with m w) s (Some x) v.within) in
     omega (arith, filled m w (omega arith), reads m w t (omega arith) x)

@@ -19,7 +19,7 @@ module _ (some others : List ℕ) (m : ℕ) (loads : (last size : ℕ) → load 
   loaded_run-loads (suc most) bucket =
       rw (loaded_within-loads bucket (m - 1), loaded_run-loads most (bucket_after m bucket 1)) refl
 
-  -- a probe reads equally many buckets where each stretch is home to equally many hashes
+  -- a probe reads equally many buckets if each stretch is home to equally many hashes
   pub reach-loads : (hash : ℕ) → reach some m hash ≡ reach others m hash
   reach-loads hash =
       elim (cases_lt 0 m) [

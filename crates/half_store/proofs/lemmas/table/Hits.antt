@@ -1,7 +1,7 @@
 -- What searches read that find their pairs: all together as much as insertions do that fill an empty table.
 use Rattle.half_store.proofs.Common.{◌≡◌, ◌≤◌, length, ◌+◌, inr, refl, ◌∙◌, arith, ℕ, ◌<◌, zero, suc, inl, sym, ap, Bool, List, Some, slice_index, Option, None}
 use Rattle.half_store.proofs.Common.{subst, [], ◌∷◌, true, false, ◌==◌, cond, cases_lt, eq-eqb, ne_eqb, filling_reach, probe_distance, home, bucket_is_loaded}
-use Rattle.half_store.proofs.Common.{slots_from, slot_at, HasVacantSlot, ProbeInvariant, state_of_words, IsIndexed, probe_reads}
+use Rattle.half_store.proofs.Common.{slots_from, slot_at, HasVacantSlot, ProbeInvariant, state_of_words, IsIndexed, reads_up_to}
 use Rattle.std.proofs.Common.{sum_by}
 use Rattle.std.proofs.lemmas.Bool.{cond-true, cond-false, both_ways, false≢true}
 use Rattle.std.proofs.lemmas.List.Sums.{fails_before_first, passes_at_first}
@@ -37,7 +37,7 @@ module _ (slots : List (Option ℕ)) (ordered : ProbeInvariant slots) (hashes : 
 
   -- no pair passes an empty bucket, so the way from there to the pair leads over its home
   at_bucket : (p : ℕ) → p < m → (slot : Option ℕ) → slot_at slots p ≡ slot
-      → of_slot (λ h. probe_reads m h p) slot + of_slot weight slot ≡ cond (bucket_is_loaded hashes m p) (probe_distance m v p + 1) 0
+      → of_slot (λ h. reads_up_to m h p) slot + of_slot weight slot ≡ cond (bucket_is_loaded hashes m p) (probe_distance m v p + 1) 0
   at_bucket p in_p None is = rw (unloaded_where_vacant slots ordered hashes counted p in_p is) refl
   at_bucket p in_p (Some h) is =
       let before = ordered.before p v h is in_v none in
@@ -57,7 +57,7 @@ module _ (slots : List (Option ℕ)) (ordered : ProbeInvariant slots) (hashes : 
       (same_sums hashes slots counted weight m
       (λ h. omega (arith, probe_distance-lt m v in_v (home m h) (home-lt m h (omega arith))))
       ∙ sum_by-below (of_slot weight) slots None)
-      ∙ sym (below-plus m (λ p. of_slot (λ h. probe_reads m h p) (slot_at slots p)) (λ p. of_slot weight (slot_at slots p)))
+      ∙ sym (below-plus m (λ p. of_slot (λ h. reads_up_to m h p) (slot_at slots p)) (λ p. of_slot weight (slot_at slots p)))
       ∙ below-same m _ _ (λ p in_p. at_bucket p in_p (slot_at slots p) refl)
 
 module _ {m : ℕ} {hashes : List ℕ} {slots : List (Option ℕ)} (t : IsTableOf m hashes slots) (v : ℕ) (in_v : v < m) where
@@ -150,7 +150,7 @@ module _ {hashes words : List ℕ} (x : IsIndexed hashes words) where
   hits_add_up =
       let m : ℕ = length words in
       let room = x.room in
-      sum_of_pairs (λ h p. probe_reads m h p)
+      sum_of_pairs (λ h p. reads_up_to m h p)
       ∙ elim (cases_lt 0 m) [
         | inl some ↦
             let four = four-le_count m x.count some in
@@ -160,16 +160,16 @@ module _ {hashes words : List ℕ} (x : IsIndexed hashes words) where
         | inr none ↦
             let zero_buckets : m ≡ 0 = omega arith in
             let no_pairs : length hashes ≡ 0 = omega arith in
-            ap (λ n. sum_below n (λ p. of_slot (λ h. probe_reads m h p) (slot_at (slots_from hashes words) p))) zero_buckets
+            ap (λ n. sum_below n (λ p. of_slot (λ h. reads_up_to m h p) (slot_at (slots_from hashes words) p))) zero_buckets
             ∙ sym (no_hashes m hashes no_pairs)
       ]
 
   -- a search that ends at a pair has read what its depth says
   pub hit_reads_in-at : (index p hash : ℕ) → slice_index words p ≡ suc index → slice_index hashes index ≡ hash
-      → hit_reads_in (state_of_words hashes words) index ≡ probe_reads (length words) hash p
+      → hit_reads_in (state_of_words hashes words) index ≡ reads_up_to (length words) hash p
   unfolding hit_reads_in
   hit_reads_in-at index p hash word is =
       let within : index < length hashes = omega (arith, within-at (length hashes) words p x.each.within) in
       let at = bucket_of-is index within in
       let same : bucket_of words index ≡ p = same_bucket x.each (bucket_of words index) p index at.1 word in
-      (λ i. probe_reads (length words) (is i) (same i))
+      (λ i. reads_up_to (length words) (is i) (same i))

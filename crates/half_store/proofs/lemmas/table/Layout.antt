@@ -2,9 +2,9 @@
 use Rattle.half_store.proofs.Common.{◌≡◌, ◌≤◌, length, ◌+◌, ◌++◌, inr, refl, ◌∙◌, arith, ℕ, ◌<◌, zero, suc, inl, sym, ap, Bool, List, Some, slice_index, Option}
 use Rattle.half_store.proofs.Common.{None, subst, [], ◌∷◌, ◌≢◌, true, set, replicate, cases_lt, cases_eq, common_steps, length-set, get_or_past}
 use Rattle.half_store.proofs.Common.{length-replicate, get_or-replicate, get_or_append_left, get_or_push, count_by-le-length, get_or_from_slice_get}
-use Rattle.half_store.proofs.Common.{slice_get-get_or, slice_get_within, same_Some, swap_remove, capacity_of, IsBucketCount, buckets_of, reach, probe_distance, probe_reads}
-use Rattle.half_store.proofs.Common.{home, slots_from, slot_at, hash_of_word, EachOnce, HasVacantSlot, ProbeInvariant, stored, IsSlotVacancy, TableState}
-use Rattle.half_store.proofs.Common.{IsIndexedWithGap, IsEmptyBeside, state_of_words, IsIndexed, AreWordsFor}
+use Rattle.half_store.proofs.Common.{slice_get-get_or, slice_get_within, same_Some, swap_remove, capacity_of, IsBucketCount, buckets_of, reach, probe_distance, reads_up_to}
+use Rattle.half_store.proofs.Common.{home, slots_from, slot_at, hash_of_word, EachOnce, HasVacantSlot, ProbeInvariant, stored, IsSlotVacancy, TableState, distance_from_home}
+use Rattle.half_store.proofs.Common.{IsIndexedWithGap, IsOtherEmpty, state_of_words, IsIndexed, AreWordsFor}
 use Rattle.std.proofs.lemmas.List.{length_push}
 use Rattle.half_store.specs.Reach.{HomesApart}
 use Rattle.half_store.specs.Table.{HasGap, IsTable}
@@ -56,7 +56,7 @@ module _ {hashes words : List ℕ} (x : IsIndexed hashes words) where
       (λ p l. ap (stored test) (sym (hash_of_word-at hashes words p)))
       ∙ ap (count_to (λ p. stored test (slot_at slots p))) (sym long) ∙ sym (count_by-count_to (stored test) slots None)
 
-  -- where there are buckets, one is empty
+  -- if there are buckets, one is empty
   pub index-vacant : 0 < length words → HasVacantSlot slots
   index-vacant some =
       elim (first_none slots (λ k. k) (length slots)) [
@@ -72,7 +72,11 @@ module _ {hashes words : List ℕ} (x : IsIndexed hashes words) where
             absurd (omega (arith, long, count_to-all (length slots), index-counted any, count_by-count_to (stored any) slots None))
       ]
 
-  -- where no two hashes share a home, each stands there: `bound` counts the steps from an empty bucket
+  -- a probe that ends at an empty bucket has read what `reach` says
+  pub vacancy_reads : (hash p : ℕ) → IsSlotVacancy slots hash p → reach hashes (length words) hash ≡ distance_from_home slots hash p + 1
+  vacancy_reads hash p v = ap (λ n. reach hashes n hash) (sym long) ∙ reach_at_vacancy slots x.ordered hashes index-counted hash p v
+
+  -- if no two hashes share a home, each stands there: `bound` counts the steps from an empty bucket
   at_home_below : HomesApart hashes (length slots) → (e : ℕ) → e < length slots → slot_at slots e ≡ None →
       (bound p h : ℕ) → probe_distance (length slots) e p < bound → slot_at slots p ≡ Some h → home (length slots) h ≡ p
   at_home_below apart e in_e none zero p h few is = absurd (omega arith)
@@ -111,7 +115,7 @@ module _ {hashes words : List ℕ} (x : IsIndexed hashes words) where
 
   -- a probe from the pair's home bucket comes to it sooner than an unsuccessful one ends
   pub nearer : (index bucket : ℕ) → index < length hashes → slice_index words bucket ≡ suc index
-      → probe_reads (length words) (slice_index hashes index) bucket < reach hashes (length words) (slice_index hashes index)
+      → reads_up_to (length words) (slice_index hashes index) bucket < reach hashes (length words) (slice_index hashes index)
   nearer index bucket in_hashes word = grind (arith, common_steps, index-counted, index-vacant, long, reach_past_pair, slice_index, slot_of_word, word-lt)
 
   module _ (p h : ℕ) (w : IsSlotVacancy slots h p) where
@@ -225,7 +229,7 @@ module _ {hashes words : List ℕ} (x : IsIndexed hashes words) where
         }
 
     -- an empty bucket ends the shift where an unsuccessful probe for the hash of the pair ends
-    pub vacant-remove : (vacant : ℕ) × IsEmptyBeside (slots_from hashes° words°) bucket vacant
+    pub vacant-remove : (vacant : ℕ) × IsOtherEmpty (slots_from hashes° words°) bucket vacant
         × (probe_distance (length words) (home (length words) (slice_index hashes index)) bucket
         + probe_distance (length words) bucket vacant + 1 ≡ reach hashes (length words) (slice_index hashes index))
     vacant-remove =
@@ -246,7 +250,7 @@ module _ {hashes words : List ℕ} (x : IsIndexed hashes words) where
           before,
         ) in (
           v.0,
-          subst (λ s. IsEmptyBeside s bucket v.0) (sym slots-remove)
+          subst (λ s. IsOtherEmpty s bucket v.0) (sym slots-remove)
               (omega (arith, length-set slots bucket None, v.1.within), slot_other slots bucket v.0 None apart ∙ v.1.vacant, apart),
           subst (λ n. probe_distance n (home n hash) bucket + probe_distance n bucket v.0 + 1 ≡ reach hashes n hash) long far,
         )

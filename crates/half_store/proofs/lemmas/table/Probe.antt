@@ -1,4 +1,4 @@
--- Where probes end, and what they read and compare, over the held hashes alone.
+-- Where probes end, and what they read and compare, by the held hashes only.
 use Rattle.half_store.proofs.Common.{◌≡◌, ◌≤◌, length, ◌+◌, inr, refl, ◌∙◌, arith, ℕ, ◌-◌, ◌<◌, inl, sym, ap, Bool, List, Some, Option, None, ◌≢◌, true, false}
 use Rattle.half_store.proofs.Common.{◌==◌, count_by, nat_lt, eq-eqb, ne_eqb, lt-ltb, le-ltb, common_steps, count_by-le-length, same_Some, reach, probe_distance, subst}
 use Rattle.half_store.proofs.Common.{bucket_after, home, bucket_is_loaded, slot_at, HasVacantSlot, ProbeInvariant, stored, IsSlotVacancy, distance_from_home}
@@ -18,7 +18,7 @@ use Rattle.half_store.proofs.lemmas.table.Buckets.{length-slots_from}
 use Rattle.half_store.proofs.lemmas.tally.{looked_more-zero}
 use Rattle.half_store.proofs.lemmas.table.Slots.{Probes, home_distance, Probes-vacancy, Probes-distance, Probes-next, slot_cases, full_from}
 use Rattle.half_store.proofs.lemmas.table.Slots.{home-lt, full-lt, vacancy_for, full_loaded, vacant_unloaded, stored_passes, passes_stored}
-use Rattle.half_store.proofs.lemmas.table.Slots.{Probes-ahead, some_read}
+use Rattle.half_store.proofs.lemmas.table.Slots.{Probes-ahead}
 
 -- the hashes are those that are stored, counted by each test
 abbrev pub SameCounts : List ℕ → List (Option ℕ) → Type 0
@@ -222,4 +222,4 @@ module _ {slots : List (Option ℕ)} {hash : ℕ} {Refused : ℕ → Type 0} {bu
     Searches-missing = omega (arith, s.compared, passed-all slots ordered hash bucket (Probes-vacancy s.probe none))
 
 -- what the proofs of probes go by
-pub ruleset probe_steps = (common_steps, Probes-ahead, full_from, home_distance, length-slots_from, looked_more-zero, mask_mod, some_read)
+pub ruleset probe_steps = (common_steps, Probes-ahead, full_from, home_distance, length-slots_from, looked_more-zero, mask_mod)

@@ -1,4 +1,4 @@
--- How far a probe goes, said of loads alone.
+-- How far a probe goes, by loads only.
 use Rattle.half_store.proofs.Common.{◌≡◌, ◌≤◌, inr, refl, arith, ℕ, ◌-◌, ◌<◌, zero, suc, inl, ap, List, subst, true, false, cases_eq, ne_eqb, bucket_after}
 use Rattle.half_store.proofs.Common.{home, load, bucket_is_loaded}
 use Rattle.std.proofs.Common.{leb}
@@ -33,7 +33,7 @@ module _ (hashes : List ℕ) (m : ℕ) where
   pub bucket_is_loaded-no : (last : ℕ) → ((size : ℕ) → 1 ≤ size → size < m → load hashes m last size < size) → bucket_is_loaded hashes m last ≡ false
   bucket_is_loaded-no last h = loaded_within-no last (m - 1) (λ size one small. h size one (omega arith))
 
-  -- the run of loaded buckets from b on, where d of them are loaded and the next is not
+  -- the run of loaded buckets from b on, if d of them are loaded and the next is not
   pub loaded_run-is : (most d b : ℕ) → b < m → most < m → d ≤ most → ((k : ℕ) → k < d → bucket_is_loaded hashes m (bucket_after m b k) ≡ true)
       → (d < most → bucket_is_loaded hashes m (bucket_after m b d) ≡ false) → loaded_run hashes m most b ≡ d
   unfolding loaded_run
@@ -48,7 +48,7 @@ module _ (hashes : List ℕ) (m : ℕ) where
       (λ h. rw (after_next m b in_b d (omega arith)) (stop (omega arith))) in
       rw e (ap suc rest)
 
-  -- and where d of them are loaded
+  -- and if d of them are loaded
   pub loaded_run-ge : (most d b : ℕ) → b < m → most < m → d ≤ most → ((k : ℕ) → k < d → bucket_is_loaded hashes m (bucket_after m b k) ≡ true)
       → d ≤ loaded_run hashes m most b
   unfolding loaded_run

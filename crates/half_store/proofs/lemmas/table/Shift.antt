@@ -8,14 +8,14 @@ use Rattle.std.proofs.lemmas.List.{length_push}
 use Rattle.std.proofs.lemmas.List.Edits.{length-remove, get_or-remove_below, get_or-remove_above}
 use Rattle.std.proofs.lemmas.List.Elements.{All-from_get_or}
 use Rattle.std.proofs.lemmas.List.Sorted.{IsPermutation-append_comm, IsPermutation-remove, IsPermutation-trans}
-use Rattle.half_store.specs.StoreRemoval.{word_once_moved, MovesToEnd}
+use Rattle.half_store.specs.StoreRemoval.{word_after_move, MovesToEnd}
 use Rattle.half_store.proofs.lemmas.table.Buckets.{slots_from-same, within-at}
 use Rattle.half_store.proofs.lemmas.table.Counts.{count_to, count_to-same, count_by-count_to}
 use Rattle.half_store.proofs.lemmas.table.History.{reach-permutation}
 
 module _ (pairs index : ℕ) (within : index < pairs) where
   -- no word is past the last one
-  pub moved_word-le : (word : ℕ) → word ≤ pairs → word_once_moved pairs index word ≤ pairs
+  pub moved_word-le : (word : ℕ) → word ≤ pairs → word_after_move pairs index word ≤ pairs
   moved_word-le word l = grind (arith, nat_tests)
 
   -- the entry index that becomes this one
@@ -26,7 +26,7 @@ module _ (pairs index : ℕ) (within : index < pairs) where
   before-lt at l = grind (arith, nat_tests)
 
   -- a word leads to an entry index where it led to the one that becomes it
-  same_test : (at word : ℕ) → at < pairs → word ≤ pairs → (word_once_moved pairs index word == suc at) ≡ (word == suc (before at))
+  same_test : (at word : ℕ) → at < pairs → word ≤ pairs → (word_after_move pairs index word == suc at) ≡ (word == suc (before at))
   same_test at word l few = grind (arith, nat_tests)
 
 -- the hash of a word by one column is that of another word by another
@@ -43,8 +43,8 @@ module _ (hashes : List ℕ) (index : ℕ) (within : index < length hashes) wher
   length-moved = omega (arith, length_push (remove hashes index) (slice_index hashes index), length-remove hashes index within)
 
   -- each word has the hash that it had
-  hash-moved : (word : ℕ) → word ≤ length hashes → hash_of_word moved (word_once_moved (length hashes) index word) ≡ hash_of_word hashes word
-  hash-moved zero l = ap (hash_of_word moved) (let e : word_once_moved (length hashes) index 0 ≡ 0 = grind (arith, nat_tests) in e)
+  hash-moved : (word : ℕ) → word ≤ length hashes → hash_of_word moved (word_after_move (length hashes) index word) ≡ hash_of_word hashes word
+  hash-moved zero l = ap (hash_of_word moved) (let e : word_after_move (length hashes) index 0 ≡ 0 = grind (arith, nat_tests) in e)
   hash-moved (suc at) l =
       let left = length-remove hashes index within in
       elim (cases_lt at index) [

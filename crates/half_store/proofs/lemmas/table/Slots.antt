@@ -4,11 +4,9 @@ use Rattle.half_store.proofs.Common.{◌≢◌, true, false, set, count_by, ◌�
 use Rattle.half_store.proofs.Common.{get_or_past, probe_distance, bucket_after, home, slot_at, HasVacantSlot, ProbeInvariant, stored, IsSlotVacancy}
 use Rattle.half_store.proofs.Common.{distance_from_home}
 use Rattle.std.proofs.Common.{ltb}
-use Rattle.std.proofs.Common.{is_some}
 use Rattle.std.proofs.lemmas.Bool.{false≢true}
 use Rattle.std.proofs.lemmas.Nat.{mod_below}
 use borrow.Author.Tests.{ltb-true}
-use Rattle.std.specs.Prelude.{option_map}
 use Rattle.half_store.specs.Slots.{FullBefore}
 use Rattle.half_store.proofs.lemmas.table.Circle.{probe_distance-lt, distance_self, bucket_after-lt, next_farther}
 use Rattle.half_store.proofs.lemmas.table.Circle.{probe_distance-bucket_after, bucket_after-probe_distance, distance_same, down-lt}
@@ -25,11 +23,6 @@ some≢none h e = cc
 -- a bucket that holds a hash is not empty
 pub full_from : (o : Option ℕ) (h : ℕ) → o ≡ Some h → o ≢ None
 full_from o h e z = some≢none h (sym e ∙ z)
-
--- a bucket that was read is full
-pub some_read : (o : Option (ℕ × ℕ)) {slot : Option ℕ} → option_map (λ p. p.1) o ≡ slot → is_some o ≡ true → slot ≢ None
-some_read None e some z = false≢true some
-some_read (Some p) e some z = some≢none p.1 (e ∙ z)
 
 -- a bucket that was written, and each other one
 pub slot_set : (slots : List (Option ℕ)) (p : ℕ) (o : Option ℕ) → p < length slots → slot_at (set slots p o) p ≡ o

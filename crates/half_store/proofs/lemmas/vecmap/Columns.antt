@@ -5,7 +5,7 @@ use Rattle.std.proofs.lemmas.Slice.Zip.{seconds-zip}
 use Rattle.std.specs.List.{refill}
 use Rattle.std.specs.declared.vec.Vec.{Vec}
 use Rattle.std.specs.Map.{keys_of, values_of}
-use Rattle.half_store.proofs.lemmas.vecmap.Zip.{length-zip, zip-refill, slice_get-zip, zip_push, zip-swap_remove_at, zip-set_key_at, zip-set_value_at, slice_get_at}
+use Rattle.half_store.proofs.lemmas.vecmap.Zip.{length-zip_even, zip-refill, slice_get-zip, zip_push, zip-swap_remove_at, zip-set_key, zip-set_value, slice_get_at}
 use Rattle.half_store.specs.Columns.{AreEven, columns_with}
 
 module _ {K V Z : Type 0} where
@@ -27,7 +27,7 @@ module _ {K V Z : Type 0} where
 
   pub opened : (keys : Vec K Z) (values : Vec V Z) (map : ColumnsState K V) → seen keys values ≡ map → AreEven keys values
       → Opened keys values map
-  opened keys values map view even = grind (arith, common_steps, keys_of-zip, length-zip, seconds-zip)
+  opened keys values map view even = grind (arith, common_steps, keys_of-zip, length-zip_even, seconds-zip)
 
 module _ {K V Z : Type 0} {keys : Vec K Z} {values : Vec V Z} {map : ColumnsState K V} (o : Opened keys values map) where
   -- a map of these pairs, whose columns keep their capacity
@@ -50,4 +50,4 @@ module _ {K V Z : Type 0} where
   written keys values map view even w = grind (arith, common_steps, opened, pairs_are, zip-refill)
 
 -- what the proofs of `Columns` go by
-pub ruleset columns_steps = (common_steps, opened, pairs_are, written, slice_get-zip, slice_get_at, zip_push, zip-swap_remove_at, zip-set_key_at, zip-set_value_at)
+pub ruleset columns_steps = (common_steps, opened, pairs_are, written, slice_get-zip, slice_get_at, zip_push, zip-swap_remove_at, zip-set_key, zip-set_value)

@@ -2,7 +2,7 @@
 use Rattle.half_store.proofs.Common.{◌≡◌, ◌≤◌, ◌+◌, ◌∙◌, arith, ℕ, ◌-◌, ◌<◌, ap, Option, subst, cases_lt, common_steps, Work, compared_more}
 use Rattle.std.proofs.Common.{⊎_elim, eq-or-lt_of_le}
 use Rattle.half_store.specs.Work.{first_match_cost}
-use Rattle.half_store.specs.Search.{ComparesInOrder}
+use Rattle.half_store.specs.Search.{IsVectorSearchCost}
 use Rattle.half_store.specs.declared.vecmap.search.Scan.{Scan}
 use Rattle.half_store.specs.declared.vecmap.search.Scan.TheVariants.{ByBlock}
 
@@ -35,7 +35,7 @@ compared_behind first n w between after from before then = grind (arith, common_
 
 -- each key up to where the search ended was compared once
 pub in_order : {scan : Scan} {found : Option ℕ} {n len : ℕ} {w after : Work} → after ≡ compared_more n w → n ≡ first_match_cost found len
-    → n ≤ len → ComparesInOrder scan found len w after
+    → n ≤ len → IsVectorSearchCost scan found len w after
 in_order {w = w} work cost within =
     let compared = ap (λ (v : Work). v.compared) work in
     record {
@@ -48,5 +48,5 @@ in_order {w = w} work cost within =
 
 -- each key up to the end of the block where the search ended was compared once
 pub by_block : {found : Option ℕ} {n len : ℕ} {w after : Work} → after ≡ compared_more n w → first_match_cost found len ≤ n → n ≤ len
-    → ComparesInOrder ByBlock found len w after
+    → IsVectorSearchCost ByBlock found len w after
 by_block work cost within = grind (arith, common_steps)

@@ -13,7 +13,7 @@ use Rattle.half_store.specs.contracts.store.Store as C
 use Rattle.half_store.specs.contracts.store.Store.TheInside as I
 use Rattle.half_store.specs.formers.vecmap.Columns as columns
 
--- what a store has beside its form and its pairs
+-- what a store has besides its form and its pairs
 abbrev Rest : Type 0
 Rest = ℕ × TableState
 
@@ -34,7 +34,7 @@ the_items K X s = values_of s.pairs
 pub the_items_listed : (K X : Type 0) (s : StoreState K X) → listed _ (children (the_former this K) X s) ≡ the_items K X s
 the_items_listed K X s = values_listed K X s.pairs
 
--- the columns, and the table where there is one
+-- the columns, and the table if there is one
 abbrev fields : Type 0 → Former {0}
 fields K = via (pair (columns.the_former this K) (const (Option (Box TableState)))) (λ X. Inside K X) (λ X u. (u.columns, u.table))
     (λ X v. record { columns = v.0; table = v.1 }) (λ X u. refl) (λ X v. refl)

@@ -1,4 +1,4 @@
-use Rattle.halfbrown.specs.CallerLoops.{CountsEach}
+use Rattle.halfbrown.specs.ByKey.{CountsEach}
 use Rattle.half_uses.proofs.words.count_words.Given as goal
 use Rattle.half_uses.specs.Words.{same_word}
 

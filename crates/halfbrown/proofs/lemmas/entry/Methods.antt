@@ -1,15 +1,16 @@
 -- What an entry is, of a key or a raw one, what is written, put and removed through it, and what it is after a closure had its value.
+use Rattle.halfbrown.specs.Pairs.{IsQuery}
 use Rattle.halfbrown.proofs.Common.{◌≡◌, ℕ, ◌<◌, Bool, true, false, length, arith, List, [], ◌∷◌, ◌++◌, take, slice_get, Option, Some, refl, ap, ◌∙◌, None, sym}
 use Rattle.halfbrown.proofs.Common.{subst, ◌-◌, IfSome, length-append, common_steps, Bor, IsEquivalence, IsDistinct, keys_of, values_of, option_map}
 use Rattle.halfbrown.proofs.Common.{swap_remove_at, set_value_at, length-set_value_at, set_key_at, Vacancy, with_entry_value, occupied, entry_value, IsWritten}
-use Rattle.halfbrown.proofs.Common.{insert_needs, Prepares, IsIndexOf, IsAbsent, take_out_by, State, IsPlacedIn, map_with_pairs, WithPairs, HasRemovedBy}
+use Rattle.halfbrown.proofs.Common.{capacity_for_insert, Prepares, KeyFoundAt, KeyMissing, swap_out_by, State, IsPlacedIn, map_with_pairs, WithPairs, HasRemovedBy}
 use Rattle.std.proofs.Common.{set, MatchOption, true≢false}
 use Rattle.std.proofs.lemmas.Map.Entries.{length-values_of}
 use Rattle.std.specs.Borrow.{MutBor}
 use Rattle.std.specs.Coded.{le_prop}
 use Rattle.halfbrown.specs.declared.entry.OccupiedEntry.{OccupiedEntry}
-use Rattle.halfbrown.specs.EntryView.{EntryView, pairs_with_value, with_value}
-use Rattle.halfbrown.specs.EntryView.{IsEntryOf, PutsThroughEntry, IsRawEntryOf, ModifiesEntry, IsRekeyed}
+use Rattle.halfbrown.specs.EntryView.{EntryView, pairs_with_value, map_with_value}
+use Rattle.halfbrown.specs.EntryView.{IsEntryOf, PutsThroughEntry, IsRawEntryOf, ModifiesEntry, HasEntryKeyReplaced}
 use Rattle.halfbrown.proofs.callers.Pairs.{has_put, has_removed_by}
 use Rattle.half_store.proofs.lemmas.store.States.{length-set_key_at, kept_value, lost_pair}
 use Rattle.halfbrown.proofs.lemmas.map.Find.{placed-prop}
@@ -19,75 +20,75 @@ use Rattle.halfbrown.proofs.lemmas.pairs.SetBy.{has_put_by, has_set_by, passes_a
 use Rattle.halfbrown.proofs.lemmas.pairs.Changes.{values_of-set_key_at, key-set_key_at, swap_remove_at-set_key_at, key_of-pair, set_value_at-twice}
 use Rattle.halfbrown.proofs.lemmas.pairs.Changes.{value-set_value_at, swap_remove_at-set_value_at, set_value_at-last, value-last, pair-last}
 use Rattle.halfbrown.proofs.lemmas.pairs.Changes.{length-swap_remove_at}
-use Rattle.half_store.specs.ValueReplacement.{kept_index, kept_pairs, ReplacesValue}
+use Rattle.half_store.specs.ValueReplacement.{index_if_kept, pairs_if_kept, ReplacesValue}
 use Rattle.halfbrown.specs.Replacement.{ReplacesEntry, IsReplaced, IsVacated}
 use Rattle.halfbrown.specs.Ghosts.{EqGhosts, HashGhosts, HasherGhosts, LimitGhosts}
 
-module _ {K V S : Type 0} (same : K → K → Bool) (laws : IsEquivalence same) (m : MutBor (State K V S)) (distinct : IsDistinct same (keys_of m.now.pairs)) where
-  module _ (test : K → Bool) (one_class : (k other : K) → test k ≡ true → test other ≡ same k other) where
-    removed : HasRemovedBy same test m.now.pairs (take_out_by test m.now.pairs)
-    removed = has_removed_by same laws test one_class m.now.pairs distinct
+module _ {K V S : Type 0} (eq : K → K → Bool) (laws : IsEquivalence eq) (m : MutBor (State K V S)) (distinct : IsDistinct eq (keys_of m.now.pairs)) where
+  module _ (test : K → Bool) (one_class : IsQuery eq test) where
+    removed : HasRemovedBy eq test m.now.pairs (swap_out_by test m.now.pairs)
+    removed = has_removed_by eq laws test one_class m.now.pairs distinct
 
     -- the key that passes is held at this index
-    module _ (index : ℕ) (at : IsIndexOf test m.now.pairs index) where
-      pub found_entry : IsEntryOf same test m.now.pairs (record { map = m; index = Some index; vacant = None })
+    module _ (index : ℕ) (at : KeyFoundAt test m.now.pairs index) where
+      pub found_entry : IsEntryOf eq test m.now.pairs (record { map = m; index = Some index; vacant = None })
       found_entry =
-          let passes = passes_at same laws test one_class (keys_of m.now.pairs) index (first_of_index test (keys_of m.now.pairs) index at.index_is) in
+          let passes = passes_at eq laws test one_class (keys_of m.now.pairs) index (first_of_index test (keys_of m.now.pairs) index at.index_is) in
           grind (arith, common_steps, key_of-pair, at.take_is, removed, passes)
 
-      pub found_raw : IsRawEntryOf same test m.now (record { map = m; index = Some index; vacant = None })
-      unfolding with_value
+      pub found_raw : IsRawEntryOf eq test m.now (record { map = m; index = Some index; vacant = None })
+      unfolding map_with_value
       found_raw = record {
         map = refl;
         entry = found_entry;
         puts = λ k v. sym (at.put_is k v);
-        put = λ k v. has_put_by same laws test one_class m.now.pairs (set_value_at m.now.pairs index v) k v (sym (at.put_is k v));
+        put = λ k v. has_put_by eq laws test one_class m.now.pairs (set_value_at m.now.pairs index v) k v (sym (at.put_is k v));
         writes = λ occupied v. record { pairs = sym (at.set_is v); form = refl; capacity = refl; builder = refl };
-        written = λ occupied v. has_set_by same laws test one_class m.now.pairs index v at;
+        written = λ occupied v. has_set_by eq laws test one_class m.now.pairs index v at;
       }
 
     -- no key that passes is held; the key that the entry was made for, if any, passes
-    module _ (absent : IsAbsent test m.now.pairs) where
+    module _ (absent : KeyMissing test m.now.pairs) where
       pub missing_entry : (new : Option (K × Vacancy)) → IfSome (option_map (λ (n : K × Vacancy). n.0) new) (λ k. test k ≡ true)
-          → IsEntryOf same test m.now.pairs (record { map = m; index = None; vacant = new })
+          → IsEntryOf eq test m.now.pairs (record { map = m; index = None; vacant = new })
       missing_entry new passes = grind (arith, common_steps, absent.take_is, removed, passes)
 
-      pub missing_raw : IsRawEntryOf same test m.now (record { map = m; index = None; vacant = None })
+      pub missing_raw : IsRawEntryOf eq test m.now (record { map = m; index = None; vacant = None })
       missing_raw = record {
         map = refl;
         entry = missing_entry None tt;
         puts = λ k v. sym (absent.put_is k v);
-        put = λ k v. has_put_by same laws test one_class m.now.pairs (m.now.pairs ++ (k, v) ∷ []) k v (sym (absent.put_is k v));
+        put = λ k v. has_put_by eq laws test one_class m.now.pairs (m.now.pairs ++ (k, v) ∷ []) k v (sym (absent.put_is k v));
         writes = λ occupied. absurd (true≢false (sym occupied));
         written = λ occupied. absurd (true≢false (sym occupied));
       }
 
-module _ {K V S : Type 0} (limit : ℕ) (same : K → K → Bool) (laws : IsEquivalence same) (old : State K V S) (k : K) (m : MutBor (State K V S))
-    (prepared : Prepares limit old (insert_needs limit same old k) m.now) (distinct : IsDistinct same (keys_of m.now.pairs)) where
+module _ {K V S : Type 0} (limit : ℕ) (eq : K → K → Bool) (laws : IsEquivalence eq) (old : State K V S) (k : K) (m : MutBor (State K V S))
+    (prepared : Prepares limit old (capacity_for_insert limit eq old k) m.now) (distinct : IsDistinct eq (keys_of m.now.pairs)) where
   -- the entry of a held key, and what is written through it
-  module _ (index : ℕ) (at : IsIndexOf (same k) m.now.pairs index) where
-    pub found_key : IsEntryOf same (same k) old.pairs (record { map = m; index = Some index; vacant = None })
-    found_key = subst (λ pairs. IsEntryOf same (same k) pairs (record { map = m; index = Some index; vacant = None })) prepared.pairs
-        (found_entry same laws m distinct (same k) (laws.congr k) index at)
+  module _ (index : ℕ) (at : KeyFoundAt (eq k) m.now.pairs index) where
+    pub found_key : IsEntryOf eq (eq k) old.pairs (record { map = m; index = Some index; vacant = None })
+    found_key = subst (λ pairs. IsEntryOf eq (eq k) pairs (record { map = m; index = Some index; vacant = None })) prepared.pairs
+        (found_entry eq laws m distinct (eq k) (laws.congr k) index at)
 
-    pub found_writes : PutsThroughEntry limit same old k (record { map = m; index = Some index; vacant = None })
-    unfolding with_value
+    pub found_writes : PutsThroughEntry limit eq old k (record { map = m; index = Some index; vacant = None })
+    unfolding map_with_value
     found_writes = record {
       puts = λ v. grind (arith, common_steps, at.put_is k v);
-      put = λ v. grind (arith, common_steps, at.put_is k v, has_put same laws old.pairs k v);
+      put = λ v. grind (arith, common_steps, at.put_is k v, has_put eq laws old.pairs k v);
     }
 
   -- of one that is not held
-  module _ (vacancy : Vacancy) (absent : IsAbsent (same k) m.now.pairs) where
-    pub missing_key : IsEntryOf same (same k) old.pairs (record { map = m; index = None; vacant = Some (k, vacancy) })
-    missing_key = subst (λ pairs. IsEntryOf same (same k) pairs (record { map = m; index = None; vacant = Some (k, vacancy) })) prepared.pairs
-        (missing_entry same laws m distinct (same k) (laws.congr k) absent (Some (k, vacancy)) (laws.refl k))
+  module _ (vacancy : Vacancy) (absent : KeyMissing (eq k) m.now.pairs) where
+    pub missing_key : IsEntryOf eq (eq k) old.pairs (record { map = m; index = None; vacant = Some (k, vacancy) })
+    missing_key = subst (λ pairs. IsEntryOf eq (eq k) pairs (record { map = m; index = None; vacant = Some (k, vacancy) })) prepared.pairs
+        (missing_entry eq laws m distinct (eq k) (laws.congr k) absent (Some (k, vacancy)) (laws.refl k))
 
-    pub missing_writes : PutsThroughEntry limit same old k (record { map = m; index = None; vacant = Some (k, vacancy) })
-    unfolding with_value
+    pub missing_writes : PutsThroughEntry limit eq old k (record { map = m; index = None; vacant = Some (k, vacancy) })
+    unfolding map_with_value
     missing_writes = record {
       puts = λ v. grind (arith, common_steps, absent.put_is k v);
-      put = λ v. grind (arith, common_steps, absent.put_is k v, has_put same laws old.pairs k v);
+      put = λ v. grind (arith, common_steps, absent.put_is k v, has_put eq laws old.pairs k v);
     }
 
 module _ {K V S L H : Type 0} {e : EqGhosts K} {h : HashGhosts K} {b : HasherGhosts S K H} {l : LimitGhosts L}
@@ -102,7 +103,7 @@ module _ {K V S L H : Type 0} {e : EqGhosts K} {h : HashGhosts K} {b : HasherGho
         within = within;
         placed = placed;
       } ≡ with_entry_value o value
-  unfolding with_value
+  unfolding map_with_value
   lent_entry value within placed =
       λ i. record {
         map = record o.map { now = map_with_pairs o.map.now (set_value_at o.map.now.pairs o.index value) };
@@ -114,7 +115,7 @@ module _ {K V S L H : Type 0} {e : EqGhosts K} {h : HashGhosts K} {b : HasherGho
 
   -- the entry with this value is the same one, written
   pub written_entry : (value : V) → IsWritten (occupied o) value (occupied (with_entry_value o value))
-  unfolding with_value
+  unfolding map_with_value
   written_entry value = record {
     same_map = refl;
     map = refl;
@@ -129,13 +130,13 @@ module _ {K V S L H : Type 0} {e : EqGhosts K} {h : HashGhosts K} {b : HasherGho
   held_value none = some_is_not_none (values_of o.map.now.pairs) o.index (omega (arith, length-values_of o.map.now.pairs, o.within)) none
 
   -- of the map with this value only the pairs are new
-  pub held_with_pairs : (key : K) (value : V) → WithPairs o.map.now (pairs_with_value (occupied o) key value) (with_value (occupied o) value)
-  unfolding with_value
+  pub held_with_pairs : (key : K) (value : V) → WithPairs o.map.now (pairs_with_value (occupied o) key value) (map_with_value (occupied o) value)
+  unfolding map_with_value
   held_with_pairs key value = record { pairs = refl; form = refl; capacity = refl; builder = refl }
 
   -- a value that is written again
   held_twice : (key : K) (value again : V) → pairs_with_value (occupied (with_entry_value o value)) key again ≡ pairs_with_value (occupied o) key again
-  unfolding with_value
+  unfolding map_with_value
   held_twice key value again = set_value_at-twice o.map.now.pairs o.index value again
 
   -- a closure had the pair, and left this value
@@ -145,27 +146,29 @@ module _ {K V S L H : Type 0} {e : EqGhosts K} {h : HashGhosts K} {b : HasherGho
       let written = written_entry left in
       let at : (P : Option V → Type 0) → P (Some left) → P (entry_value (occupied (with_entry_value o left))) = λ P. subst P (sym written.value_is) in
       record {
-        same_map = refl;
         value = at modifies holds;
-        found = refl;
-        occupied = at (λ v. IfSome v (λ value. with_value (occupied o) left ≡ with_value (occupied o) value)) refl;
-        pairs = λ key. at (λ v. IfSome v (λ value. WithPairs o.map.now (pairs_with_value (occupied o) key value) (with_value (occupied o) left)))
+        occupied = at (λ v. IfSome v (λ value. map_with_value (occupied o) left ≡ map_with_value (occupied o) value)) refl;
+        pairs = λ key. at (λ v. IfSome v (λ value. WithPairs o.map.now (pairs_with_value (occupied o) key value) (map_with_value (occupied o) left)))
             (held_with_pairs key left);
         vacant = λ none. absurd (held_value none);
-        key = written.key;
-        writes = written.writes;
-        puts = λ key value. held_twice key left value;
-        without = written.without;
+        same = record {
+          same_map = refl;
+          found = refl;
+          key = written.key;
+          writes = written.writes;
+          puts = λ key value. held_twice key left value;
+          without = written.without;
+        };
       }
 
-  -- the index is within where the map has the pairs with another key
+  -- the index is within if the map has the pairs with another key
   pub rekeyed_within : (key : K) → o.index < length (set_key_at o.map.now.pairs o.index key)
   rekeyed_within key = omega (arith, length-set_key_at o.map.now.pairs o.index key, o.within)
 
-  -- the entry where its map has the pairs with another key
+  -- the entry if its map has the pairs with another key
   pub rekeyed_entry : (key : K) (map : MutBor (State K V S)) → map.ghost_name ≡ o.map.ghost_name
       → map.now ≡ map_with_pairs o.map.now (set_key_at o.map.now.pairs o.index key)
-      → IsRekeyed (occupied o) key (record { map = map; index = Some o.index; vacant = None })
+      → HasEntryKeyReplaced (occupied o) key (record { map = map; index = Some o.index; vacant = None })
   rekeyed_entry key map same after = grind (arith, common_steps, o.within, key-set_key_at, slice_get, swap_remove_at-set_key_at, values_of-set_key_at)
 
 front_of : {X : Type 0} (xs : List X) (x y : X) (n : ℕ) → n ≡ length xs → take n (set (xs ++ x ∷ []) (length xs) y) ≡ xs
@@ -187,11 +190,11 @@ module _ {K V : Type 0} where
     within : j < length qs
     pair : slice_get qs j ≡ Some (k, v)
     value : slice_get (values_of qs) j ≡ Some v
-    writes : (u : V) → set_value_at qs j u ≡ kept_pairs is_vec ps i k u
+    writes : (u : V) → set_value_at qs j u ≡ pairs_if_kept is_vec ps i k u
     left : swap_remove_at qs j ≡ swap_remove_at ps i
 
   kept_at : (is_vec : Bool) (ps : List (K × V)) (i : ℕ) (k : K) (u v : V) → slice_get ps i ≡ Some (k, u) → i < length ps
-      → IsKeptAt is_vec ps i k v (kept_pairs is_vec ps i k v) (kept_index is_vec ps i)
+      → IsKeptAt is_vec ps i k v (pairs_if_kept is_vec ps i k v) (index_if_kept is_vec ps i)
   kept_at true ps i k u v at within =
       let front = swap_remove_at ps i in
       let all = front ++ (k, v) ∷ [] in
@@ -212,7 +215,7 @@ module _ {K V : Type 0} where
   }
 
   module _ {returns : Bor K → V → Option V → Type 0} {is_vec : Bool} {ps qs : List (K × V)} {i j : ℕ} (within : i < length ps)
-      (r : ReplacesValue returns is_vec ps i qs None) (at : j ≡ kept_index is_vec ps i) where
+      (r : ReplacesValue returns is_vec ps i qs None) (at : j ≡ index_if_kept is_vec ps i) where
     -- the pair whose value was replaced
     kept_there : IsKeptAt is_vec ps i r.key (kept_value r).0 qs j
     kept_there =
@@ -241,7 +244,7 @@ module _ {K V S L H : Type 0} {e : EqGhosts K} {h : HashGhosts K} {b : HasherGho
   pub loses_pair : (map : MutBor (State K V S)) (key : K) (vacancy : Vacancy)
       → ReplacesValue returns o.map.now.is_vec o.map.now.pairs o.index map.now.pairs (Some key) → WithPairs o.map.now map.now.pairs map.now
       → ReplacesEntry returns (occupied o) (record { map = map; index = None; vacant = Some (key, vacancy) })
-  unfolding with_value
+  unfolding map_with_value
   loses_pair map key vacancy r after =
       let lost = lost_pair r in
       replaced_entry r _ None lost.0 (record {
@@ -259,9 +262,9 @@ module _ {K V S L H : Type 0} {e : EqGhosts K} {h : HashGhosts K} {b : HasherGho
 
   -- the pair has another value
   pub keeps_pair : (map : MutBor (State K V S)) (index : ℕ) → ReplacesValue returns o.map.now.is_vec o.map.now.pairs o.index map.now.pairs None
-      → index ≡ kept_index o.map.now.is_vec o.map.now.pairs o.index → WithPairs o.map.now map.now.pairs map.now
+      → index ≡ index_if_kept o.map.now.is_vec o.map.now.pairs o.index → WithPairs o.map.now map.now.pairs map.now
       → ReplacesEntry returns (occupied o) (record { map = map; index = Some index; vacant = None })
-  unfolding with_value
+  unfolding map_with_value
   keeps_pair map index r at after =
       let kept = kept_value r in
       let there = kept_there o.within r at in

@@ -1,15 +1,15 @@
--- What becomes of items that are put one after another: of which keys the pairs are, and with which values.
+-- What becomes of items that are put one after another: the keys and values of the pairs.
 use Rattle.halfbrown.proofs.Common.{◌≡◌, ℕ, Bool, true, false, arith, List, [], ◌∷◌, ◌++◌, Option, Some, refl, ap, ◌∙◌, sym, subst, not, inl, inr, common_steps}
-use Rattle.halfbrown.proofs.Common.{IsEquivalence, keys_of, into_iter_items, Work, GrewBy, add_costs, insert_needs, value_of, put, State, IsValid}
+use Rattle.halfbrown.proofs.Common.{IsEquivalence, keys_of, into_iter_items, Work, TallyGrewBy, add_costs, capacity_for_insert, value_of, put, State, IsValid}
 use Rattle.std.proofs.Common.{reverse}
 use Rattle.std.proofs.Common.{Result, IsErr, IsErrAnd, IfErr, OnOk}
 use Rattle.std.proofs.lemmas.List.{reverse-append}
 use Rattle.std.specs.Option.{option_or}
-use Rattle.halfbrown.specs.FromIter.{put_all, collected, last_value_of, InsertsAll, Extends, Collects, RefusedInsert}
-use Rattle.halfbrown.specs.FromIter.{RefusedCollect, insertions_cost, refused_cost}
+use Rattle.halfbrown.specs.Collect.{put_all, collected, last_value_of, InsertsAll, Extends, Collects, InsertRefused}
+use Rattle.halfbrown.specs.Collect.{CollectRefused, insertions_cost, refused_cost}
 use Rattle.halfbrown.proofs.callers.Keys.{holds_by-any}
 use Rattle.halfbrown.proofs.callers.Pairs.{keys_put, lookup_put}
-use Rattle.halfbrown.specs.CallerLoops.{add_keys}
+use Rattle.halfbrown.specs.ByKey.{add_keys}
 use Rattle.std.specs.Iterator.{Yields}
 use Rattle.std.specs.Vec.Iter.{into_iter_steps}
 use Rattle.std.specs.declared.vec.IntoIter.{IntoIter}
@@ -18,8 +18,7 @@ use Rattle.halfbrown.specs.CostRanges.{no_cost}
 use Rattle.halfbrown.specs.Costs.{insert_cost}
 use Rattle.halfbrown.specs.Growth.{IsRefusal}
 use Rattle.halfbrown.specs.Insertion.{Puts}
-use Rattle.half_store.specs.Capacity.{is_vec_for}
-use Rattle.halfbrown.specs.Making.{IsMade}
+use Rattle.halfbrown.specs.Making.{IsEmptyFor}
 use Rattle.halfbrown.proofs.lemmas.map.Costs.{costs_assoc, none_more, more_none, spent_both}
 
 module _ {K V : Type 0} (eq : K → K → Bool) where
@@ -49,7 +48,7 @@ pub yields_more : {I X : Type 0} (steps : I → Option X → I → Type 0) (s : 
 yields_more steps s [] t x u y next = (u, subst (λ z. steps z (Some x) u) (sym y) next, refl)
 yields_more steps s (z ∷ xs) t x u y next = (y.0, y.1, yields_more steps y.0 xs t x u y.2 next)
 
--- one call of an iterator less
+-- a run without its last call is a run
 pub yields_front : {I X : Type 0} (steps : I → Option X → I → Type 0) (s : I) (xs : List X) (x : X) (u : I)
     → Yields steps s (xs ++ x ∷ []) u → (t : I) × Yields steps s xs t
 yields_front steps s [] x u y = (s, refl)
@@ -89,12 +88,12 @@ module _ {K V S : Type 0} (limit : ℕ) (eq : K → K → Bool) where
   module _ (hash : S → K → ℕ) where
     -- one item more
     inserts_more : (old middle new : State K V S) (items : List (K × V)) (k : K) (v : V) (inserts : InsertsAll limit eq old items middle)
-        → Puts limit eq middle k v (insert_needs limit eq middle k) new → IsValid limit eq new
+        → Puts limit eq middle k v (capacity_for_insert limit eq middle k) new → IsValid limit eq new
         → (more : InsertsAll limit eq old (items ++ (k, v) ∷ []) new) × (insertions_cost limit eq hash old (items ++ (k, v) ∷ []) new more
         ≡ add_costs (insertions_cost limit eq hash old items middle inserts) (insert_cost limit eq hash middle k true))
     inserts_more old middle new [] k v same puts state =
         let last = insert_cost limit eq hash old k true in (
-          (new, subst (λ m. Puts limit eq m k v (insert_needs limit eq m k) new) same puts, state, refl),
+          (new, subst (λ m. Puts limit eq m k v (capacity_for_insert limit eq m k) new) same puts, state, refl),
           sym (more_none last) ∙ none_more last ∙ ap (λ m. add_costs no_cost (insert_cost limit eq hash m k true)) (sym same),
         )
     inserts_more old middle new (p ∷ items) k v inserts puts state =
@@ -108,12 +107,12 @@ module _ {K V S : Type 0} (limit : ℕ) (eq : K → K → Bool) where
     -- what was inserted so far
     pub record InsertsSoFar (old : State K V S) (items : List (K × V)) (now : State K V S) (before after : Work) : Type 0 where
       pub inserted : InsertsAll limit eq old items now
-      pub spent : GrewBy (insertions_cost limit eq hash old items now inserted) before after
+      pub spent : TallyGrewBy (insertions_cost limit eq hash old items now inserted) before after
 
     pub item_more : (old now new : State K V S) (items : List (K × V)) (k : K) (v : V) (before middle after : Work)
         → InsertsSoFar old items now before middle
-        → Puts limit eq now k v (insert_needs limit eq now k) new → IsValid limit eq new
-        → GrewBy (insert_cost limit eq hash now k true) middle after
+        → Puts limit eq now k v (capacity_for_insert limit eq now k) new → IsValid limit eq new
+        → TallyGrewBy (insert_cost limit eq hash now k true) middle after
         → InsertsSoFar old (items ++ (k, v) ∷ []) new before after
     item_more old now new items k v before middle after so_far puts state grew =
         let more = inserts_more old now new items k v so_far.inserted puts state in
@@ -121,18 +120,18 @@ module _ {K V S : Type 0} (limit : ℕ) (eq : K → K → Bool) where
         let cost = insertions_cost limit eq hash old items now so_far.inserted in
         record {
           inserted = more.0;
-          spent = subst (λ cost. GrewBy cost before after) (sym more.1) (spent_both cost last before middle after so_far.spent grew);
+          spent = subst (λ cost. TallyGrewBy cost before after) (sym more.1) (spent_both cost last before middle after so_far.spent grew);
         }
 
     -- one item that was refused
     pub item_refused : (old now new : State K V S) (items : List (K × V)) (given : List (K × V) → Type 0) (k : K) (v : V) (why : Refusal)
         (before middle after : Work)
-        → InsertsSoFar old items now before middle → given (items ++ (k, v) ∷ []) → new ≡ now → IsRefusal (insert_needs limit eq now k) why
-        → GrewBy (insert_cost limit eq hash now k false) middle after
-        → (refused : RefusedInsert limit eq given old why new) × GrewBy (refused_cost limit eq hash refused) before after
+        → InsertsSoFar old items now before middle → given (items ++ (k, v) ∷ []) → new ≡ now → IsRefusal (capacity_for_insert limit eq now k) why
+        → TallyGrewBy (insert_cost limit eq hash now k false) middle after
+        → (refused : InsertRefused limit eq given old why new) × TallyGrewBy (refused_cost limit eq hash refused) before after
     item_refused old now new items given k v why before middle after so_far was_given same refused grew =
         let cost = insertions_cost limit eq hash old items now so_far.inserted in
-        subst (λ m. (refused : RefusedInsert limit eq given old why m) × GrewBy (refused_cost limit eq hash refused) before after)
+        subst (λ m. (refused : InsertRefused limit eq given old why m) × TallyGrewBy (refused_cost limit eq hash refused) before after)
         (sym same) (
           record { before = items; key = k; value = v; were_given = was_given; inserted = so_far.inserted; refused = refused },
           spent_both cost (insert_cost limit eq hash now k false) before middle after so_far.spent grew,
@@ -147,7 +146,7 @@ module _ {K V S : Type 0} (limit : ℕ) (eq : K → K → Bool) where
   -- ---- collections
 
   module _ (laws : IsEquivalence eq) (is_default : S → Type 0) (needed : ℕ) where
-    abbrev pub collection_of : (made new : State K V S) (items : List (K × V)) → IsMade is_default (is_vec_for limit needed) needed made
+    abbrev pub collection_of : (made new : State K V S) (items : List (K × V)) → IsEmptyFor is_default limit needed made
         → InsertsAll limit eq made items new
         → Collects limit eq is_default needed items new
     collection_of made new items is_made inserts =
@@ -162,11 +161,11 @@ module _ {K V S : Type 0} (limit : ℕ) (eq : K → K → Bool) where
           inserted = inserts;
         }
 
-    -- a refusal of items, of which more is known
+    -- a refusal of items, once more is known of them
     pub refusal_given : (given known : List (K × V) → Type 0) (why : Refusal)
         → ((items : List (K × V)) → given items → known items)
-        → RefusedCollect limit eq is_default needed given why
-        → RefusedCollect limit eq is_default needed known why
+        → CollectRefused limit eq is_default needed given why
+        → CollectRefused limit eq is_default needed known why
     refusal_given given known why also (inl refused) = inl refused
     refusal_given given known why also (inr item) =
         let i = item.insertion in
@@ -190,14 +189,14 @@ pub gave_first : {X Z : Type 0} (s : IntoIter X Z) (xs : List X) (t : IntoIter X
 gave_first s [] t y = ap into_iter_items y
 gave_first s (x ∷ xs) t y = y.1.0 ∙ ap (λ l. x ∷ l) (gave_first y.0 xs t y.2)
 
--- what an error says, where the result is this error
+-- what an error says, if the result is this error
 pub at_error : {A E : Type 0} (r : Result A E) (e : E) (P : Type 0) (Q : E → Type 0) → IsErr r × IsErrAnd r (λ why. why ≡ e) → Q e
     → OnOk r P × IfErr r Q
 at_error r e P Q told holds = grind (arith, common_steps)
 
 -- a map made with a builder is one made with a builder of its kind
-pub made_with : {K V S : Type 0} (is_builder : S → Type 0) {b : S} {is_vec : Bool} {needed : ℕ} {m : State K V S} → is_builder b
-    → IsMade (λ it. it ≡ b) is_vec needed m → IsMade is_builder is_vec needed m
+pub made_with : {K V S : Type 0} (is_builder : S → Type 0) {b : S} {limit needed : ℕ} {m : State K V S} → is_builder b
+    → IsEmptyFor (λ it. it ≡ b) limit needed m → IsEmptyFor is_builder limit needed m
 made_with is_builder holds told = record {
   form = told.form;
   pairs = told.pairs;

@@ -1,14 +1,14 @@
 -- What was spent at one time and at another is spent in all: what a search for a key spent, and what a granted insertion.
 use Rattle.halfbrown.proofs.Common.{◌≡◌, ℕ, ◌+◌, ◌<◌, Bool, true, false, length, arith, ap, ◌∙◌, sym, subst, IfSome, ◌&&◌, common_steps, keys_of, index_of}
-use Rattle.halfbrown.proofs.Common.{Work, GrewBy, add_costs, IsSearchCost, is_full, Prepares, holds, State}
+use Rattle.halfbrown.proofs.Common.{Work, TallyGrewBy, add_costs, IsSearchCost, is_full, Prepares, holds, State}
 use Rattle.std.proofs.Common.{◌==◌, zero-add, add-zero, add_assoc}
 use Rattle.std.proofs.Common.{if◌then◌else◌}
 use Rattle.half_store.specs.Work.{asked_more, looked_more}
 use Rattle.halfbrown.specs.CostRanges.{Cost, no_cost}
 use Rattle.halfbrown.specs.Costs.{IsKeySearchCost, search_asked, switch_asked, capacity_after_switch}
 use Rattle.halfbrown.specs.Costs.{IsInsertCost, raw_insert_cost, hit_reads}
-use Rattle.halfbrown.specs.Growth.{is_vec_after, new_key_needs}
-use Rattle.halfbrown.specs.Insertion.{second_probe_reads}
+use Rattle.halfbrown.specs.Growth.{is_vec_after, capacity_for_new_key}
+use Rattle.halfbrown.specs.Insertion.{growth_probe_reads}
 use Rattle.halfbrown.proofs.lemmas.pairs.Indices.{found_where_held}
 use Rattle.halfbrown.specs.RawEntry.{work_after_adding}
 
@@ -21,11 +21,11 @@ more_none more = simp add-zero
 pub costs_assoc : (a b c : Cost) → add_costs a (add_costs b c) ≡ add_costs (add_costs a b) c
 costs_assoc a b c = simp add_assoc
 
-pub spent_none : (w : Work) → GrewBy no_cost w w
+pub spent_none : (w : Work) → TallyGrewBy no_cost w w
 spent_none w = grind (arith, common_steps)
 
-pub spent_both : (a b : Cost) (before middle after : Work) → GrewBy a before middle → GrewBy b middle after
-    → GrewBy (add_costs a b) before after
+pub spent_both : (a b : Cost) (before middle after : Work) → TallyGrewBy a before middle → TallyGrewBy b middle after
+    → TallyGrewBy (add_costs a b) before after
 spent_both a b before middle after first second = grind (arith, common_steps)
 
 -- a search under what a key writes is one under the key's hash
@@ -52,18 +52,18 @@ module _ {K V S : Type 0} (limit : ℕ) (eq : K → K → Bool) (hash : S → K 
   pub held_costs : (is_full limit old ≡ false → middle ≡ old) → holds eq old.pairs k ≡ true → IsInsertCost limit eq hash old k true before after
   held_costs same held = grind (arith, common_steps, hit-read, found_where_held (eq k) old.pairs)
 
-  -- where capacity for a new key was refused
+  -- if capacity for a new key was refused
   pub unmade_costs : is_full limit old ≡ false → IsInsertCost limit eq hash old k false before after
   unmade_costs room = grind (arith, common_steps)
 
   pub missing_costs : (wanted : ℕ) → (middle.is_vec ≡ false → wanted ≡ hash middle.builder k) → (final : Work)
-      → final ≡ looked_more (second_probe_reads (hash middle.builder) middle wanted true) after → holds eq old.pairs k ≡ false
+      → final ≡ looked_more (growth_probe_reads (hash middle.builder) middle wanted true) after → holds eq old.pairs k ≡ false
       → IsInsertCost limit eq hash old k true before final
   missing_costs wanted own final probed missing = grind (arith, common_steps, found_where_held (eq k) old.pairs)
 
 pub raw_costs : {K V S : Type 0} (limit : ℕ) (eq : K → K → Bool) (hash : S → K → ℕ) (old m : State K V S) (k : K)
-    → Prepares limit old (new_key_needs limit old) m → length m.pairs < m.capacity
+    → Prepares limit old (capacity_for_new_key limit old) m → length m.pairs < m.capacity
     → (before between searched after : Work) → between ≡ asked_more (switch_asked limit old) before
     → IsKeySearchCost eq hash m k between searched → after ≡ (if holds eq m.pairs k then searched else work_after_adding hash m k searched)
-    → GrewBy (raw_insert_cost limit eq hash old k true) before after
+    → TallyGrewBy (raw_insert_cost limit eq hash old k true) before after
 raw_costs limit eq hash old m k prepared left before between searched after spent search is = grind (arith, common_steps)

@@ -1,12 +1,13 @@
 -- What a search costs.
+use Rattle.halfbrown.specs.Pairs.{IsQuery}
 use Rattle.halfbrown.proofs.Common.{◌≡◌, ℕ, ◌<◌, Bool, true, false, length, arith, get_or, slice_get, Option, map, common_steps}
 use Rattle.halfbrown.proofs.Common.{length-keys_of, slice_get-get_or, slice_get-map, same_Some, IsDistinct, keys_of, found_index, index_of, StoreState, Work}
-use Rattle.halfbrown.proofs.Common.{Found, Vacancy, IsSearchCost, state_in, IsIndexOf, IsAbsent, KeySearch, State, IsPlacedIn, IsVacancyIn}
+use Rattle.halfbrown.proofs.Common.{Found, Vacancy, IsSearchCost, state_in, KeyFoundAt, KeyMissing, KeySearch, State, IsPlacedIn, IsVacancyIn}
 use Rattle.std.proofs.Props.{props}
 use Rattle.half_store.specs.declared.vecmap.search.Scan.{Scan}
 use Rattle.std.specs.Prelude.{Result}
 use Rattle.half_store.specs.Search.{StoreSearch, IsStoreSearchCost}
-use Rattle.halfbrown.specs.Lookup.{IsMatch, HasNoMatch, MatchSearch}
+use Rattle.halfbrown.specs.Lookup.{MatchFoundAt, MatchMissing, MatchSearch}
 use Rattle.halfbrown.proofs.lemmas.pairs.Indices.{first_matched, index_of_first, none_at, absent_of_none}
 
 module _ {K V S : Type 0} (hash : S → K → ℕ) (wanted own : ℕ) (m : State K V S) (before after : Work) (index : Option ℕ) where
@@ -30,7 +31,7 @@ vacancy-prop m hash vacancy = Prim.hlevel props
 pub placed-prop : {K V S : Type 0} (m : State K V S) (found : Found) → IsProp (IsPlacedIn m found)
 placed-prop m found = Prim.hlevel props
 
--- What a search by a match on keys says of a key, where the match is the test of one.
+-- What a search by a match on keys says of a key, if the match is the test of one.
 
 -- the index that a search by a test found is that of the first key that passes
 module _ {K V S : Type 0} (test : K → Bool) (wanted : ℕ) (m : State K V S) where
@@ -38,18 +39,18 @@ module _ {K V S : Type 0} (test : K → Bool) (wanted : ℕ) (m : State K V S) w
   found_is_index result at = grind (arith, common_steps)
 
 module _ {K V S : Type 0} (test : K → Bool) (returns : K → Bool → Type 0) (decides : (k : K) (b : Bool) → returns k b → b ≡ test k)
-    (eq : K → K → Bool) (one_class : (k other : K) → test k ≡ true → test other ≡ eq k other)
+    (eq : K → K → Bool) (one_class : IsQuery eq test)
     (hash : S → K → ℕ) (wanted : ℕ) (m : State K V S) (distinct : IsDistinct eq (keys_of m.pairs)) where
   -- the key that is accepted is the one that passes
-  index_of_match : (index : ℕ) → IsMatch returns hash wanted m index → IsIndexOf test m.pairs index
+  index_of_match : (index : ℕ) → MatchFoundAt returns hash wanted m index → KeyFoundAt test m.pairs index
   index_of_match index found =
       let within : index < length (keys_of m.pairs) = omega (arith, found.within, length-keys_of m.pairs) in
       index_of_first test m.pairs index (first_matched test eq one_class (keys_of m.pairs) index distinct within
       (λ d. decides (get_or (keys_of m.pairs) index d) true (found.accepted _ (slice_get-get_or (keys_of m.pairs) index d within))))
 
   module _ (own : ℕ) (known : m.is_vec ≡ false → wanted ≡ own) (hashed : (k : K) → test k ≡ true → hash m.builder k ≡ own) where
-    -- where each key of the hash is refused none passes
-    absent_of_no_match : HasNoMatch returns hash wanted m → IsAbsent test m.pairs
+    -- if each key of the hash is refused none passes
+    absent_of_no_match : MatchMissing returns hash wanted m → KeyMissing test m.pairs
     absent_of_no_match none =
         absent_of_none test m.pairs (none_at test (keys_of m.pairs) (λ j d within.
         let k = get_or (keys_of m.pairs) j d in

@@ -5,7 +5,7 @@ use Rattle.std.proofs.Common.{◌^◌}
 use Rattle.half_store.proofs.lemmas.store.States.{length-set_values}
 use Rattle.half_store.specs.PairLists.{set_values}
 use Rattle.half_store.specs.Store.{store_with_pairs}
-use Rattle.halfbrown.specs.Updates.{KeepsKeys}
+use Rattle.halfbrown.specs.Updates.{WrittenValuesKeepKeys}
 use Rattle.halfbrown.proofs.lemmas.map.Layout.{kept_keys, state_of}
 use Rattle.std.proofs.iter.runs.Sources.{from_front, as_is}
 use Rattle.std.specs.Iterator.Runs.{YieldsMutRefsInOrder}
@@ -43,7 +43,7 @@ module _ {K V S : Type 0} (eq : K → K → Bool) (hash : K → ℕ) (limit : �
     pub back : (vs : List V)
         → state_in (store_with_pairs s (set_values s.pairs vs)) builder ≡ map_with_pairs map (set_values map.pairs vs)
     pub pairs : s.pairs ≡ map.pairs
-    pub keeps : KeepsKeys limit eq map
+    pub keeps : WrittenValuesKeepKeys limit eq map
 
   comes_back : (vs : List V)
       → state_in (store_with_pairs s (set_values s.pairs vs)) builder ≡ map_with_pairs map (set_values map.pairs vs)

@@ -2,7 +2,7 @@
 use Rattle.halfbrown.proofs.Common.{◌≡◌, ℕ, ◌<◌, ◌≤◌, Bool, true, false, length, arith, suc, cond, List, [], ◌∷◌, ◌++◌, slice_get, Option, Some, refl, ap, ◌∙◌}
 use Rattle.halfbrown.proofs.Common.{sym, subst, map, length-append, common_steps, map-append, length-keys_of, IsDistinct-tail, slice_get-map, Bor}
 use Rattle.halfbrown.proofs.Common.{IsEquivalence, AllByRecursion, keys_of, option_map, swap_remove_at, set_value_at, length-set_value_at, set_key_at}
-use Rattle.halfbrown.proofs.Common.{StoreState, Found, Vacancy, state_in, IsMapInvariant, IsIndexOf, IsAbsent, holds, IsValid}
+use Rattle.halfbrown.proofs.Common.{StoreState, Found, Vacancy, state_in, IsMapInvariant, KeyFoundAt, KeyMissing, holds, IsValid}
 use Rattle.std.proofs.Common.{true≢false, Result, Ok, Err, IfErr, OnOk}
 use Rattle.std.specs.List.{IsDistinct, AllZip, Contains}
 use Rattle.std.proofs.lemmas.Map.Keys.{IsDistinct-push, IsDistinct-head, IsDistinct-cons}
@@ -16,7 +16,7 @@ use Rattle.halfbrown.proofs.lemmas.pairs.Indices.{none_of_index, any_of_none, ab
 use Rattle.std.specs.Map.Calls.{RetainsPairs}
 use Rattle.halfbrown.specs.Making.{ArePairClones}
 use Rattle.std.specs.Result.{result_err}
-use Rattle.half_store.specs.ValueReplacement.{kept_pairs, ReplacesValue}
+use Rattle.half_store.specs.ValueReplacement.{pairs_if_kept, ReplacesValue}
 use Rattle.halfbrown.proofs.callers.Pairs.{has_removed}
 
 module _ {K V : Type 0} where
@@ -44,7 +44,7 @@ module _ {K V : Type 0} where
 
     -- one more pair, whose key is not held
     pub kept_pushed : IsEquivalence eq → (s : StoreState K V) (k : K) (v : V) (vacancy : Vacancy) → IsMapInvariant limit eq hash s
-        → IsAbsent (eq k) s.pairs → length s.pairs < s.capacity
+        → KeyMissing (eq k) s.pairs → length s.pairs < s.capacity
         → (s.is_vec ≡ false → vacancy.hash ≡ hash k) → IsMapInvariant limit eq hash (store_pushed s k v vacancy)
     kept_pushed laws s k v vacancy kept absent room own = grind (arith, common_steps, IsDistinct-push, any_of_none, kept_as, length-append, map, map-append, none_of_index)
 
@@ -97,7 +97,7 @@ module _ {F K V : Type 0} (T : F → K → V → Bool → V → F → Type 0) wh
       let apart = all_retained (λ k. eq p.0 k ≡ false) r.2 ps r.3 r.5 (IsDistinct-head eq p.0 (keys_of ps) distinct) in
       grind (arith, common_steps, IsDistinct-cons eq p.0 (keys_of r.3) apart rest, rest)
 
--- the keys, of the pairs
+-- clones of pairs are clones of their keys
 pub keys_zip : {K V : Type 0} (R : K → K → Type 0) (Q : V → V → Type 0) (ps qs : List (K × V)) → ArePairClones R Q ps qs
     → AllZip R (keys_of ps) (keys_of qs)
 keys_zip R Q [] [] zip = tt
@@ -105,7 +105,7 @@ keys_zip R Q [] (q ∷ qs) zip = absurd zip
 keys_zip R Q (p ∷ ps) [] zip = absurd zip
 keys_zip R Q (p ∷ ps) (q ∷ qs) zip = (zip.0.0, keys_zip R Q ps qs zip.1)
 
--- what is told of the elements of the first list alone
+-- what is known of the elements of the first list only
 pub zip_held : {A B : Type 0} (R Q : A → B → Type 0) (xs : List A) (ys : List B) → ((x : A) (y : B) → Contains xs x → R x y → Q x y)
     → AllZip R xs ys → AllZip Q xs ys
 zip_held R Q [] [] told zip = tt
@@ -128,7 +128,7 @@ module _ {K : Type 0} (eq : K → K → Bool) (laws : IsEquivalence eq) where
   all_apart k l (x ∷ ks) [] same zip all = absurd zip
   all_apart k l (x ∷ ks) (y ∷ ls) same zip all = grind (arith, common_steps, all_apart k l ks ls same zip.1 all.1)
 
-  -- distinct keys stay distinct where each is replaced by its equal
+  -- distinct keys stay distinct if each is replaced by its equal
   pub IsDistinct-zip : (ks ls : List K) → AllZip (λ x y. eq x y ≡ true) ks ls → IsDistinct eq ks → IsDistinct eq ls
   unfolding IsDistinct
   IsDistinct-zip [] [] zip distinct = tt
@@ -152,9 +152,9 @@ module _ {K V : Type 0} where
       → slice_get (map hash (keys_of ps)) i ≡ Some (hash k)
   hash_at hash ps i k v at = grind (arith, common_steps, slice_get-map hash (keys_of ps) i, slice_get-map (λ (p : K × V). p.0) ps i)
 
-  -- a stored key is at its own index, and where its pair is gone no equal one is held
+  -- a stored key is at its own index, and if its pair is gone no equal one is held
   pub own_index : (eq : K → K → Bool) → IsEquivalence eq → (ps : List (K × V)) → IsDistinct eq (keys_of ps) → (i : ℕ) (k : K) (v : V)
-      → slice_get ps i ≡ Some (k, v) → IsIndexOf (eq k) ps i
+      → slice_get ps i ≡ Some (k, v) → KeyFoundAt (eq k) ps i
   own_index eq laws ps distinct i k v at = index_of_pair eq laws ps i (k, v) distinct at
 
   pub unheld_after : (eq : K → K → Bool) → IsEquivalence eq → (ps : List (K × V)) → IsDistinct eq (keys_of ps) → (i : ℕ) (k : K) (v : V)
@@ -178,7 +178,7 @@ module _ {K V : Type 0} (eq : K → K → Bool) (laws : IsEquivalence eq) (hash 
       (λ table. refl)).distinct
 
   kept_moved : (is_vec : Bool) → old.is_vec ≡ is_vec → index < length old.pairs → (k : K) (v w : V) → slice_get old.pairs index ≡ Some (k, v)
-      → new.pairs ≡ kept_pairs is_vec old.pairs index k w → new.table.hashes ≡ old.table.hashes → IsMapInvariant limit eq hash new
+      → new.pairs ≡ pairs_if_kept is_vec old.pairs index k w → new.table.hashes ≡ old.table.hashes → IsMapInvariant limit eq hash new
   kept_moved true vector within k v w at is stays =
       let shorter = length-swap_remove_at old.pairs index (omega (arith, within)) in
       kept_as eq hash limit old new kept keeps (subst (λ ps. IsDistinct eq (keys_of ps)) (sym is) (moved_distinct vector within k v w at))

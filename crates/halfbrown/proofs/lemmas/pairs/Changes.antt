@@ -1,4 +1,4 @@
--- Lists of pairs of which one has another key, another value, or is gone.
+-- Lists of pairs, after one got another key or another value, or is gone.
 use Rattle.halfbrown.proofs.Common.{◌≡◌, ℕ, ◌+◌, ◌<◌, Bool, true, false, length, arith, suc, List, [], ◌∷◌, ◌++◌, take, get_or, slice_get, Option, Some, refl}
 use Rattle.halfbrown.proofs.Common.{ap, ◌∙◌, None, sym, subst, map, IfSome, zero, common_steps, get_or_default, IsDistinct-tail, slice_get-map, same_Some}
 use Rattle.halfbrown.proofs.Common.{slice_get_cases, IsEquivalence, AllByRecursion, keys_of, values_of, option_map, index_of, swap_remove_at, set_value_at}
@@ -12,7 +12,7 @@ use Rattle.std.specs.List.{IsDistinct, swap_remove, remove}
 use Rattle.std.specs.List.Sorted.{IsPermutation}
 use Rattle.std.specs.Map.{remove_entry}
 use Rattle.half_store.proofs.lemmas.store.States.{length-set_key_at}
-use Rattle.halfbrown.specs.Pairs.{pair_of}
+use Rattle.halfbrown.specs.Pairs.{stored_pair_of}
 use Rattle.halfbrown.specs.Updates.{HasKeyReplaced}
 use Rattle.halfbrown.proofs.lemmas.pairs.Indices.{IsFirst, first_of_index}
 
@@ -43,7 +43,7 @@ module _ {X : Type 0} where
   IsPermutation-swap_remove_at (y ∷ xs) i x within is =
       subst (λ l. IsPermutation (y ∷ xs) (x ∷ l)) (default_is (y ∷ xs) i x y (omega arith)) (IsPermutation-swap_remove (y ∷ xs) i x within is)
 
-  -- distinct keys stay distinct where one is gone
+  -- distinct keys stay distinct if one is gone
   module _ (eq : X → X → Bool) (laws : IsEquivalence eq) where
     distinct_left : (ks left : List X) (i : ℕ) → i < length ks → ((x : X) → x ≡ get_or ks i x → IsPermutation ks (x ∷ left))
         → IsDistinct eq ks → IsDistinct eq left
@@ -140,7 +140,7 @@ pub map-set_alike : {A B : Type 0} (f : A → B) (xs : List A) (i : ℕ) (old ne
 map-set_alike f [] i old new at alike = refl
 map-set_alike f (x ∷ xs) i old new at alike = grind (arith, common_steps, map-set_alike f xs)
 
--- P stays true of each element where it goes over from the old one to the new
+-- P stays true of each element if it goes over from the old one to the new
 all-set : {A : Type 0} (P : A → Type 0) (xs : List A) (i : ℕ) (old new : A) → slice_get xs i ≡ Some old → (P old → P new)
     → AllByRecursion P xs → AllByRecursion P (set xs i new)
 all-set P [] i old new at over all = all
@@ -148,12 +148,12 @@ all-set P (x ∷ xs) zero old new at over all = (over (subst P (same_Some x old 
 all-set P (x ∷ xs) (suc i) old new at over all = (all.0, all-set P xs i old new at over all.1)
 
 module _ {A : Type 0} where
-  -- where P gives Q, all that P holds of is what Q holds of
+  -- if P gives Q, all that P holds of is what Q holds of
   all-map : (P Q : A → Type 0) → ((y : A) → P y → Q y) → (xs : List A) → AllByRecursion P xs → AllByRecursion Q xs
   all-map P Q over [] all = all
   all-map P Q over (x ∷ xs) all = (over x all.0, all-map P Q over xs all.1)
 
--- distinct keys stay distinct where one is replaced by its equal
+-- distinct keys stay distinct if one is replaced by its equal
 pub IsDistinct-set : {K : Type 0} (eq : K → K → Bool) → IsEquivalence eq → (old new : K) → eq old new ≡ true → (ks : List K) (i : ℕ)
     → slice_get ks i ≡ Some old → IsDistinct eq ks → IsDistinct eq (set ks i new)
 unfolding IsDistinct
@@ -177,7 +177,7 @@ pub equal_at : {K : Type 0} (eq : K → K → Bool) → IsEquivalence eq → (ol
 equal_at eq laws old new is same = laws.symm old new ∙ subst (λ k. IfSome k (λ k. eq new k ≡ true)) is same
 
 module _ {K : Type 0} (eq : K → K → Bool) (laws : IsEquivalence eq) (old new : K) (same : eq old new ≡ true) where
-  -- no key is equal to one of the two alone
+  -- a key equals both of them, or neither
   alike : (q : K) → eq q new ≡ eq q old
   alike q = laws.symm q new ∙ sym (laws.congr old new q same) ∙ laws.symm old q
 
@@ -190,29 +190,29 @@ module _ {K V : Type 0} (eq : K → K → Bool) (laws : IsEquivalence eq) (old n
   value_of-set_key_at (p ∷ ps) (suc i) at q = grind (arith, common_steps, value_of-set_key_at ps i at q)
 
   -- each other key keeps its pair
-  pair_of-set_key_at : (ps : List (K × V)) (i : ℕ) → slice_get (keys_of ps) i ≡ Some old → (q : K) → eq new q ≡ false
-      → pair_of eq (set_key_at ps i new) q ≡ pair_of eq ps q
-  pair_of-set_key_at [] i at q other = refl
-  pair_of-set_key_at (p ∷ ps) zero at q other = grind (arith, common_steps, alike, same_Some)
-  pair_of-set_key_at (p ∷ ps) (suc i) at q other = grind (arith, common_steps, pair_of-set_key_at ps i at q other)
+  stored_pair_of-set_key_at : (ps : List (K × V)) (i : ℕ) → slice_get (keys_of ps) i ≡ Some old → (q : K) → eq new q ≡ false
+      → stored_pair_of eq (set_key_at ps i new) q ≡ stored_pair_of eq ps q
+  stored_pair_of-set_key_at [] i at q other = refl
+  stored_pair_of-set_key_at (p ∷ ps) zero at q other = grind (arith, common_steps, alike, same_Some)
+  stored_pair_of-set_key_at (p ∷ ps) (suc i) at q other = grind (arith, common_steps, stored_pair_of-set_key_at ps i at q other)
 
   -- the pair of the key is the key itself with the value that was there
-  pair_of-set_key_same : (ps : List (K × V)) (i : ℕ) → slice_get (keys_of ps) i ≡ Some old → IsDistinct eq (keys_of ps)
-      → pair_of eq (set_key_at ps i new) new ≡ option_map (λ v. (new, v)) (value_of eq ps new)
+  stored_pair_of-set_key_same : (ps : List (K × V)) (i : ℕ) → slice_get (keys_of ps) i ≡ Some old → IsDistinct eq (keys_of ps)
+      → stored_pair_of eq (set_key_at ps i new) new ≡ option_map (λ v. (new, v)) (value_of eq ps new)
   unfolding IsDistinct
-  pair_of-set_key_same [] i at distinct = cc
-  pair_of-set_key_same (p ∷ ps) zero at distinct = grind (arith, common_steps, alike eq laws old new same new, laws.refl new, same_Some p.0 old at)
-  pair_of-set_key_same (p ∷ ps) (suc i) at distinct =
+  stored_pair_of-set_key_same [] i at distinct = cc
+  stored_pair_of-set_key_same (p ∷ ps) zero at distinct = grind (arith, common_steps, alike eq laws old new same new, laws.refl new, same_Some p.0 old at)
+  stored_pair_of-set_key_same (p ∷ ps) (suc i) at distinct =
       let apart = all-at (λ y. eq p.0 y ≡ false) (keys_of ps) i old at distinct.0 in
-      grind (arith, common_steps, alike eq laws old new same p.0, laws.symm new p.0, pair_of-set_key_same ps i at distinct.1)
+      grind (arith, common_steps, alike eq laws old new same p.0, laws.symm new p.0, stored_pair_of-set_key_same ps i at distinct.1)
 
   -- what callers read off the pairs
   pub has_key_replaced : (ps : List (K × V)) (i : ℕ) → slice_get (keys_of ps) i ≡ Some old → IsDistinct eq (keys_of ps)
       → HasKeyReplaced eq ps new (set_key_at ps i new)
   has_key_replaced ps i at distinct = record {
-    pair = pair_of-set_key_same ps i at distinct;
+    pair = stored_pair_of-set_key_same ps i at distinct;
     values = value_of-set_key_at ps i at;
-    others = pair_of-set_key_at ps i at;
+    others = stored_pair_of-set_key_at ps i at;
     len = length-set_key_at ps i new;
     order = values_of-set_key_at ps i new;
   }

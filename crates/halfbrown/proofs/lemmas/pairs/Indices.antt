@@ -1,7 +1,8 @@
 -- Where a key stands among pairs of distinct keys, and what that says of reading and changing them.
+use Rattle.halfbrown.specs.Pairs.{IsQuery}
 use Rattle.halfbrown.proofs.Common.{◌≡◌, ℕ, ◌<◌, Bool, true, false, length, arith, suc, List, [], ◌∷◌, ◌++◌, take, get_or, slice_get, Some, refl, ap, ◌∙◌, None}
 use Rattle.halfbrown.proofs.Common.{is_some, sym, ◌-◌, zero, common_steps, slice_get_within, get_or_from_slice_get, slice_get-map, slice_get_cases}
-use Rattle.halfbrown.proofs.Common.{IsEquivalence, IsDistinct, keys_of, lookup, lookup_entry, option_map, index_of, swap_remove_at, IsIndexOf, IsAbsent}
+use Rattle.halfbrown.proofs.Common.{IsEquivalence, IsDistinct, keys_of, lookup, lookup_entry, option_map, index_of, swap_remove_at, KeyFoundAt, KeyMissing}
 use Rattle.halfbrown.proofs.Common.{holds_by}
 use Rattle.std.proofs.lemmas.List.{take-set-le}
 use Rattle.std.specs.List.{list_any}
@@ -60,12 +61,12 @@ module _ {K V : Type 0} (test : K → Bool) where
   value_of_entry [] = refl
   value_of_entry (p ∷ ps) = grind (arith, common_steps, value_of_entry ps)
 
-  pub index_of_first : (ps : List (K × V)) (i : ℕ) → IsFirst test (keys_of ps) i → IsIndexOf test ps i
+  pub index_of_first : (ps : List (K × V)) (i : ℕ) → IsFirst test (keys_of ps) i → KeyFoundAt test ps i
   index_of_first [] i f = absurd f
   index_of_first (p ∷ ps) zero f = grind (arith, common_steps)
   index_of_first (p ∷ ps) (suc i) f = grind (arith, common_steps, index_of_first ps i f.1)
 
-  pub absent_of_none : (ps : List (K × V)) → NonePasses test (keys_of ps) → IsAbsent test ps
+  pub absent_of_none : (ps : List (K × V)) → NonePasses test (keys_of ps) → KeyMissing test ps
   absent_of_none [] n = grind (arith, common_steps)
   absent_of_none (p ∷ ps) n = grind (arith, common_steps, absent_of_none ps n.1)
 
@@ -73,29 +74,29 @@ module _ {K V : Type 0} (test : K → Bool) where
   none_of_unheld [] h = tt
   none_of_unheld (p ∷ ps) h = grind (arith, common_steps, none_of_unheld ps)
 
-  -- where no key that passes is held
-  pub absent_of_unheld : (ps : List (K × V)) → holds_by test ps ≡ false → IsAbsent test ps
+  -- if no key that passes is held
+  pub absent_of_unheld : (ps : List (K × V)) → holds_by test ps ≡ false → KeyMissing test ps
   absent_of_unheld ps h = absent_of_none ps (none_of_unheld ps h)
 
   -- from the index of the first key that passes
-  pub index_found : (ps : List (K × V)) (i : ℕ) → Some i ≡ index_of test (keys_of ps) → IsIndexOf test ps i
+  pub index_found : (ps : List (K × V)) (i : ℕ) → Some i ≡ index_of test (keys_of ps) → KeyFoundAt test ps i
   index_found ps i e = index_of_first ps i (first_of_index test (keys_of ps) i (sym e))
 
-  pub absent_of_index : (ps : List (K × V)) → None ≡ index_of test (keys_of ps) → IsAbsent test ps
+  pub absent_of_index : (ps : List (K × V)) → None ≡ index_of test (keys_of ps) → KeyMissing test ps
   absent_of_index ps e = absent_of_none ps (none_of_index test (keys_of ps) (sym e))
 
-  -- a pair behind pairs of which no key passes
+  -- a pair behind pairs whose keys do not pass
   pub index_of-added : (ps : List (K × V)) (k : K) (v : V) → index_of test (keys_of ps) ≡ None → test k ≡ true
       → index_of test (keys_of (ps ++ (k, v) ∷ [])) ≡ Some (length ps)
   index_of-added [] k v none passes = grind (arith, common_steps)
   index_of-added (p ∷ ps) k v none passes = grind (arith, common_steps, index_of-added ps k v)
 
-  -- an index is found exactly where a key that passes is held
+  -- an index is found exactly if a key that passes is held
   pub found_where_held : (ps : List (K × V)) → is_some (index_of test (keys_of ps)) ≡ holds_by test ps
   found_where_held [] = refl
   found_where_held (p ∷ ps) = grind (arith, common_steps, found_where_held ps)
 
-module _ {K : Type 0} (test : K → Bool) (eq : K → K → Bool) (one_class : (k other : K) → test k ≡ true → test other ≡ eq k other) where
+module _ {K : Type 0} (test : K → Bool) (eq : K → K → Bool) (one_class : IsQuery eq test) where
   apart : (ks : List K) → IsDistinct eq ks → (i j : ℕ) (d : K) → j < i → i < length ks → test (get_or ks i d) ≡ true
       → test (get_or ks j d) ≡ false
   apart ks distinct i j d before within at = grind (arith, common_steps, one_class (get_or ks j d) (get_or ks i d), apart_from_distinct eq ks j i d distinct)
@@ -111,19 +112,19 @@ module _ {K : Type 0} (test : K → Bool) (eq : K → K → Bool) (one_class : (
   first_matched [] i distinct within accepted = absurd (omega arith)
   first_matched (k ∷ ks) i distinct within accepted = first_of_match (k ∷ ks) i k distinct within (sym (accepted k))
 
-module _ {K V : Type 0} (same : K → K → Bool) (laws : IsEquivalence same) where
-  -- where keys are distinct, a pair is at the index of its key
-  pub index_of_pair : (ps : List (K × V)) (i : ℕ) (pair : K × V) → IsDistinct same (keys_of ps) → slice_get ps i ≡ Some pair
-      → IsIndexOf (same pair.0) ps i
+module _ {K V : Type 0} (eq : K → K → Bool) (laws : IsEquivalence eq) where
+  -- if keys are distinct, a pair is at the index of its key
+  pub index_of_pair : (ps : List (K × V)) (i : ℕ) (pair : K × V) → IsDistinct eq (keys_of ps) → slice_get ps i ≡ Some pair
+      → KeyFoundAt (eq pair.0) ps i
   index_of_pair ps i pair distinct at =
       let key : slice_get (keys_of ps) i ≡ Some pair.0 = slice_get-map (λ p. p.0) ps i ∙ ap (option_map (λ (p : K × V). p.0)) at in
-      index_of_first (same pair.0) ps i
-      (first_matched (same pair.0) same (λ k other alike. laws.congr pair.0 k other alike) (keys_of ps) i distinct
+      index_of_first (eq pair.0) ps i
+      (first_matched (eq pair.0) eq (λ k other alike. laws.congr pair.0 k other alike) (keys_of ps) i distinct
       (slice_get_within (keys_of ps) i pair.0 key)
-      (λ d. sym (laws.refl pair.0) ∙ ap (same pair.0) (sym (get_or_from_slice_get (keys_of ps) i pair.0 d key))))
+      (λ d. sym (laws.refl pair.0) ∙ ap (eq pair.0) (sym (get_or_from_slice_get (keys_of ps) i pair.0 d key))))
 
 module _ {X : Type 0} where
-  -- where the last element is taken out, the others stay as they are
+  -- if the last element is taken out, the others stay as they are
   pub last_taken : (xs : List X) (x : X) → slice_get xs (length xs - 1) ≡ Some x → xs ≡ swap_remove_at xs (length xs - 1) ++ x ∷ []
   last_taken xs x at = grind (arith, common_steps, get_or, get_or_from_slice_get, take, take-length, take-set-le, take-suc)
 

@@ -1,5 +1,5 @@
 -- A run so far, and one step more.
-use Rattle.halfbrown.proofs.Common.{◌≡◌, ℕ, Bool, false, length, arith, List, [], ◌∷◌, ◌++◌, refl, ap, ◌∙◌, sym, subst, common_steps, map-append, Work, GrewBy}
+use Rattle.halfbrown.proofs.Common.{◌≡◌, ℕ, Bool, false, length, arith, List, [], ◌∷◌, ◌++◌, refl, ap, ◌∙◌, sym, subst, common_steps, map-append, Work, TallyGrewBy}
 use Rattle.halfbrown.proofs.Common.{add_costs, Step, State, IsValid}
 use Rattle.std.proofs.Common.{◌||◌, append_assoc, append-nil}
 use Rattle.std.proofs.lemmas.List.{length-map}
@@ -32,14 +32,14 @@ module _ {K V S : Type 0} (limit : ℕ) (eq : K → K → Bool) where
         pub lead : StepsLead limit eq old steps now
         pub commands_are : commands ≡ commands_of steps ++ left
         pub replies_are : replies ≡ replies_of steps
-        pub spent : GrewBy (cost_of limit eq hash steps) before after
+        pub spent : TallyGrewBy (cost_of limit eq hash steps) before after
 
       pub no_step : RunSoFar old commands [] before
       no_step = record { steps = []; lead = refl; commands_are = refl; replies_are = refl; spent = spent_none before }
 
       pub step_more : (s : Step K V S) (left : List (Command K V)) (replies : List (Reply K V)) (middle after : Work)
           → RunSoFar s.before (s.command ∷ left) replies middle → IsValidStep limit eq s → IsValid limit eq s.after
-          → GrewBy (step_cost limit eq hash s) middle after → RunSoFar s.after left (replies ++ s.reply ∷ []) after
+          → TallyGrewBy (step_cost limit eq hash s) middle after → RunSoFar s.after left (replies ++ s.reply ∷ []) after
       step_more s left replies middle after so_far step state spent =
           let steps = so_far.steps in
           let cost = cost_of limit eq hash steps in
@@ -50,14 +50,14 @@ module _ {K V S : Type 0} (limit : ℕ) (eq : K → K → Bool) where
                 ∙ sym (ap (λ cs. cs ++ left) (map-append (λ s. s.command) steps (s ∷ []))
                 ∙ append_assoc (commands_of steps) (s.command ∷ []) left);
             replies_are = ap (λ rs. rs ++ s.reply ∷ []) so_far.replies_are ∙ sym (map-append (λ s. s.reply) steps (s ∷ []));
-            spent = subst (λ cost. GrewBy cost before after)
+            spent = subst (λ cost. TallyGrewBy cost before after)
                 (ap (add_costs cost) (more_none (step_cost limit eq hash s)) ∙ sym (cost_of-append steps (s ∷ [])))
                 (spent_both cost (step_cost limit eq hash s) before middle after so_far.spent spent);
           }
 
       pub run_ended : (now : State K V S) (left : List (Command K V)) (replies : List (Reply K V)) (after : Work) → left ≡ []
           → RunSoFar now left replies after
-          → (run : Runs limit eq old commands replies now) × GrewBy (cost_of limit eq hash run.steps) before after
+          → (run : Runs limit eq old commands replies now) × TallyGrewBy (cost_of limit eq hash run.steps) before after
       run_ended now left replies after none so_far =
           let all = so_far.commands_are ∙ ap (λ cs. commands_of so_far.steps ++ cs) none ∙ append-nil (commands_of so_far.steps) in
           (record { steps = so_far.steps; lead = so_far.lead; commands_are = all; replies_are = so_far.replies_are }, so_far.spent)

@@ -20,7 +20,7 @@ pub record PaysTwo (limit count asked : ℕ) (was is : Bool) : Type 0 where
   pub all : asked + switch_left limit is ≤ 2 * count + switch_left limit was
 
 module _ {K V S : Type 0} (limit : ℕ) (eq : K → K → Bool) where
-  -- without `Shrink` a step leaves a vector where it found one and did not switch
+  -- without `Shrink` a step leaves a vector if it found one and did not switch
   pub form_unshrunk : (s : Step K V S) → IsValidStep limit eq s → is_shrink s.command ≡ false
       → s.after.is_vec ≡ (s.before.is_vec && not (switches limit s))
   form_unshrunk s step none = grind (arith, common_steps)

@@ -1,4 +1,4 @@
-use Rattle.halfbrown.proofs.Common.{refl, ◌∙◌, sym, subst, GrewBy}
+use Rattle.halfbrown.proofs.Common.{refl, ◌∙◌, sym, subst, TallyGrewBy}
 use Rattle.halfbrown.specs.declared.run.Command.TheVariants.{InsertNew}
 use Rattle.halfbrown.proofs.lemmas.map.Costs.{key_costs, spent_both, more_none}
 use Rattle.halfbrown.proofs.run.insert_new.Goals as goal
@@ -10,7 +10,7 @@ returns-then-contains_key_counted g c =
     let held = sym c.contains_key_counted.ensures.held ∙ c.if-contains_key_counted.true in
     record {
       step = rw held (refl, refl);
-      cost = rw held (subst (λ cost. GrewBy cost c.args.tally.now c.contains_key_counted.new.tally) (more_none _) searched.grew);
+      cost = rw held (subst (λ cost. TallyGrewBy cost c.args.tally.now c.contains_key_counted.new.tally) (more_none _) searched.grew);
     }
 
 pub insert_nocheck_counted-requires : goal.insert_nocheck_counted-requires

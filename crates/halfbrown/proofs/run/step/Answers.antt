@@ -40,7 +40,7 @@ returns-in-Remove g c =
     let law = g.met.S.KeyHasher.hash_is m.builder c.in-Remove.key in
     let removes = c.remove_entry_counted.ensures.removes in
     rw c.in-Remove.is (record {
-      step = (ap (λ v. Removed v) removes.gives, removes.after);
+      step = (ap (λ v. Removed v) removes.returned, removes.after);
       cost = (key_costs g.K.PartialEq.eq g.S.KeyHasher.hash m _ _ _ _ law c.remove_entry_counted.ensures.cost).grew;
     })
 

@@ -2,7 +2,7 @@ use Rattle.std.proofs.Common.{◌≡◌, refl, sym, ap, ◌∙◌, ◌++◌, ◌
 use Rattle.std.proofs.lemmas.List.{append_assoc, map-id}
 use Rattle.std.proofs.lemmas.Map.Iter.{iter_end, rest_so_far}
 use Rattle.std.specs.String.{string_eq}
-use Rattle.halfbrown.specs.FromIter.{put_all}
+use Rattle.halfbrown.specs.Collect.{put_all}
 use Rattle.halfbrown.proofs.lemmas.map.Collect.{inserts_pairs}
 use Rattle.json_value.proofs.Merging.{err_also}
 use Rattle.json_value.proofs.value.put_each.Goals as goal

@@ -2,7 +2,7 @@ use Rattle.std.proofs.Common.{◌≡◌, ◌||◌, Bool, List, true, ap, refl, �
 use Rattle.std.proofs.iter.SoFar.{exit_by}
 use Rattle.std.specs.Cmp.{IsEquivalence}
 use Rattle.std.specs.Set.{is_member}
-use Rattle.halfbrown.specs.CallerLoops.{add_keys}
+use Rattle.halfbrown.specs.ByKey.{add_keys}
 use Rattle.halfbrown.proofs.lemmas.map.Collect.{at_error, yields_more}
 use Rattle.half_set.proofs.Sets.{union_added}
 use Rattle.half_set.proofs.hash_set.HashSet.extend.Goals as goal

@@ -1,5 +1,5 @@
 use Rattle.std.proofs.Common.{◌≡◌}
-use Rattle.halfbrown.specs.CallerLoops.{add_keys}
+use Rattle.halfbrown.specs.ByKey.{add_keys}
 use Rattle.half_set.proofs.hash_set.HashSet.extend.Given as goal
 
 abbrev pub invariant-loop-item : goal.invariant-loop-item

@@ -13,7 +13,7 @@ invariant-loop-bucket g l =
           → probe_distance m start l.bucket ≤ probe_distance m start target;
     }
 
--- the buckets ahead, once round
+-- the buckets still to be read: fewer at each step
 abbrev pub decreases-loop-bucket : goal.decreases-loop-bucket
 decreases-loop-bucket g l =
     let m = length (g.B.Words.words l.buckets) in

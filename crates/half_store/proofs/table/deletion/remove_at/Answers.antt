@@ -1,8 +1,8 @@
 use Rattle.half_store.proofs.Common.{◌≡◌, length, take, ◌+◌, refl, ◌∙◌, arith, ℕ, ◌-◌, ◌<◌, suc, sym, ap, List, slice_index, subst, set, length-set}
-use Rattle.half_store.proofs.Common.{get_or_default, swap_remove, probe_distance, slots_from, IsIndexedWithGap, IsEmptyBeside, IsIndexed, Work, ReadsWithin}
+use Rattle.half_store.proofs.Common.{get_or_default, swap_remove, probe_distance, slots_from, IsIndexedWithGap, IsOtherEmpty, IsIndexed, Work, ReadsWithin}
 use Rattle.std.proofs.lemmas.Option.{slice_get_read}
 use Rattle.half_store.specs.Work.{removal_reads_left}
-use Rattle.half_store.specs.StoreRemoval.{Renames, ShiftsUpTo}
+use Rattle.half_store.specs.StoreRemoval.{RenamesLast, ShiftsUpTo}
 use Rattle.half_store.proofs.lemmas.table.Layout.{IsIndexed-remove, vacant-remove}
 use Rattle.half_store.proofs.table.deletion.remove_at.Goals as goal
 
@@ -12,7 +12,7 @@ left xs index x few = ap (λ y. take (length xs - 1) (set xs index y)) (get_or_d
 
 -- the pair at this entry index is gone, and the last pair stands in the bucket where it stood
 module _ {hs ws words : List ℕ} {index : ℕ} (bucket : ℕ) {old renamed : Work} (x : IsIndexed hs ws) (within : index < length hs)
-    (at : slice_index ws bucket ≡ index + 1) (r : Renames hs ws index words old renamed) where
+    (at : slice_index ws bucket ≡ index + 1) (r : RenamesLast hs ws index words old renamed) where
   one : index + 1 ≡ suc index
   one = omega arith
 
@@ -31,7 +31,7 @@ module _ {hs ws words : List ℕ} {index : ℕ} (bucket : ℕ) {old renamed : Wo
       → ReadsWithin (removal_reads_left hs (length ws) index bucket) old new
   cost_left told =
       let v = vacant-remove x index (length hs - 1) bucket r.bucket is_last (at ∙ one) (r.at ∙ sym is_last) in
-      let empty = subst (λ ys. IsEmptyBeside (slots_from (swap_remove hs index 0) (set ys bucket 0)) bucket v.0) renames v.1 in
+      let empty = subst (λ ys. IsOtherEmpty (slots_from (swap_remove hs index 0) (set ys bucket 0)) bucket v.0) renames v.1 in
       let shift = told v.0 empty in
       let same = ap length r.words ∙ length-set ws r.bucket (index + 1) in
       let far = ap (λ n. probe_distance n bucket v.0) same in
@@ -44,7 +44,7 @@ module _ {hs ws words : List ℕ} {index : ℕ} (bucket : ℕ) {old renamed : Wo
 pub backward_shift-requires-clause-removed : goal.backward_shift-requires-clause-removed
 backward_shift-requires-clause-removed g c =
     let words = g.B.Words.words c.rename_last.new.buckets in
-    let r = subst (λ xs. Renames xs (g.B.Words.words c.args.buckets.now) c.args.index words c.args.tally.now c.rename_last.new.tally)
+    let r = subst (λ xs. RenamesLast xs (g.B.Words.words c.args.buckets.now) c.args.index words c.args.tally.now c.rename_last.new.tally)
     c.as_slice.ensures.value c.rename_last.ensures.renames in
     subst (λ y. IsIndexedWithGap y (set words c.args.bucket 0) c.args.bucket)
     (sym (c.as_slice-2.ensures.value ∙ c.swap_remove-hash.ensures.items
@@ -54,7 +54,7 @@ backward_shift-requires-clause-removed g c =
 pub returns-clause-cost : goal.returns-clause-cost
 returns-clause-cost g c =
     let words = g.B.Words.words c.rename_last.new.buckets in
-    let r = subst (λ xs. Renames xs (g.B.Words.words c.args.buckets.now) c.args.index words c.args.tally.now c.rename_last.new.tally)
+    let r = subst (λ xs. RenamesLast xs (g.B.Words.words c.args.buckets.now) c.args.index words c.args.tally.now c.rename_last.new.tally)
     c.as_slice.ensures.value c.rename_last.ensures.renames in
     cost_left c.args.bucket c.requires.indexed c.requires.within c.requires.at r
     (subst (λ y. ShiftsUpTo y words c.args.bucket c.rename_last.new.tally c.backward_shift.new.tally)

@@ -1,13 +1,10 @@
 use Rattle.half_store.proofs.Common.{◌≡◌, length, take, ◌+◌, ◌∙◌, arith, ◌<◌, suc, ap, slice_index, set, common_steps, length-set, capacity_of}
 use Rattle.std.proofs.lemmas.List.{length-take, take_more}
-use Rattle.half_store.proofs.lemmas.table.Layout.{index-vacant, IsIndexed-empty, IsIndexed-add, IsIndexed-as}
+use Rattle.half_store.proofs.lemmas.table.Layout.{IsIndexed-empty, IsIndexed-add, IsIndexed-as}
 use Rattle.half_store.proofs.table.memory.rehash.Goals as goal
 
 pub loop-index-init : goal.loop-index-init
 loop-index-init g c = grind (arith, common_steps, IsIndexed-empty)
-
-pub first_empty-bucket-requires-clause-vacant : goal.first_empty-bucket-requires-clause-vacant
-first_empty-bucket-requires-clause-vacant g c = grind (arith, common_steps, index-vacant)
 
 pub loop-index-preserved : goal.loop-index-preserved
 loop-index-preserved g c =

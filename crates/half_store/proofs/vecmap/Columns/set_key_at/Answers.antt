@@ -1,6 +1,6 @@
 use Rattle.half_store.proofs.Common.{refl, ◌∙◌, arith, sym, ap, get_or, slice_get, set_key_at}
 use Rattle.half_store.proofs.lemmas.vecmap.Columns.{opened, pairs_are}
-use Rattle.half_store.proofs.lemmas.vecmap.Zip.{slice_get_at, zip-set_key_at}
+use Rattle.half_store.proofs.lemmas.vecmap.Zip.{slice_get_at, zip-set_key}
 use Rattle.half_store.proofs.vecmap.Columns.set_key_at.Goals as goal
 
 pub index_mut-requires : goal.index_mut-requires
@@ -18,5 +18,5 @@ returns-clause-old g c =
 pub returns-clause-after : goal.returns-clause-after
 returns-clause-after g c =
     let o = opened c.self.inside.keys c.self.inside.values c.args.self.now c.self.view_is c.self.invariant in
-    pairs_are o (zip-set_key_at c.self.inside.keys.items c.self.inside.values.items c.args.index c.replace.new.dest
+    pairs_are o (zip-set_key c.self.inside.keys.items c.self.inside.values.items c.args.index c.replace.new.dest
     ∙ (λ j. set_key_at (o.pairs j) c.args.index (c.replace.ensures.after j))) refl

@@ -4,12 +4,12 @@ use Rattle.half_uses.proofs.bounded_cache.BoundedCache.make_way.Goals as goal
 
 pub returns-in-Some-clause-way : goal.returns-in-Some-clause-way
 returns-in-Some-clause-way g c =
-    way_of_held g.K.PartialEq.eq c.args.self.now.bound _ c.args.key.now _ (sym c.shift_remove_entry.ensures.gives ∙ c.in-Some.is)
+    way_of_held g.K.PartialEq.eq c.args.self.now.bound _ c.args.key.now _ (sym c.shift_remove_entry.ensures.returned ∙ c.in-Some.is)
 
 pub returns-in-Some-clause-left : goal.returns-in-Some-clause-left
 returns-in-Some-clause-left g c =
     let out = out g.met.K.Eq.laws (g.K.PartialEq.eq c.args.key.now) (g.met.K.Eq.laws.congr c.args.key.now) _ _ _
-    (sym c.shift_remove_entry.ensures.gives ∙ c.in-Some.is) c.shift_remove_entry.ensures.removed in
+    (sym c.shift_remove_entry.ensures.returned ∙ c.in-Some.is) c.shift_remove_entry.ensures.removed in
     c.shift_remove_entry.ensures.after.pairs
     ∙ sym (newest_all (c.args.self.now.bound - 1) _
     (omega (arith, out.len, c.args.self.now.within, ap length c.shift_remove_entry.ensures.after.pairs)))
@@ -17,7 +17,7 @@ returns-in-Some-clause-left g c =
 pub returns-in-Some-clause-room : goal.returns-in-Some-clause-room
 returns-in-Some-clause-room g c =
     let out = out g.met.K.Eq.laws (g.K.PartialEq.eq c.args.key.now) (g.met.K.Eq.laws.congr c.args.key.now) _ _ _
-    (sym c.shift_remove_entry.ensures.gives ∙ c.in-Some.is) c.shift_remove_entry.ensures.removed in
+    (sym c.shift_remove_entry.ensures.returned ∙ c.in-Some.is) c.shift_remove_entry.ensures.removed in
     omega (arith, out.len, c.args.self.now.within)
 
 pub returns-in-None-2-clause-left : goal.returns-in-None-2-clause-left

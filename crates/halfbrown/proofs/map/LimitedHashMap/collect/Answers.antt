@@ -1,6 +1,6 @@
-use Rattle.halfbrown.proofs.Common.{arith, subst, inl, inr, common_steps, GrewBy, Gives}
+use Rattle.halfbrown.proofs.Common.{arith, subst, inl, inr, common_steps, TallyGrewBy, Gives}
 use Rattle.std.specs.Iterator.{Drains}
-use Rattle.halfbrown.specs.FromIter.{RefusedInsert, refused_cost}
+use Rattle.halfbrown.specs.Collect.{InsertRefused, refused_cost}
 use Rattle.halfbrown.proofs.lemmas.map.Collect.{at_error, collection_of, inserts_asked, inserts_state, made_with}
 use Rattle.halfbrown.proofs.lemmas.map.Costs.{spent_none}
 use Rattle.halfbrown.proofs.map.LimitedHashMap.collect.Goals as goal
@@ -22,8 +22,8 @@ returns-in_err-extend_counted-clause-refused g c =
     let refused = c.in_err-extend_counted.ensures.refused in
     let is_made = made_with g.S.Default.is_default c.default.ensures c.in_ok-map.ensures.makes.ok in
     let given = Gives g.I.Iterator.next_gives in
-    let counted = subst (λ it. (insertion : RefusedInsert L E (given it) made why after)
-    × GrewBy (refused_cost L E H insertion) before c.extend_counted.new.tally)
+    let counted = subst (λ it. (insertion : InsertRefused L E (given it) made why after)
+    × TallyGrewBy (refused_cost L E H insertion) before c.extend_counted.new.tally)
     refused.0.is_made (refused.0.insertion, refused.1) in
     (at_error c.from_residual-in_err-extend_counted.result why (Unit {0}) _ c.from_residual-in_err-extend_counted.ensures
     (inr (record { made = made; is_made = is_made; reached = after; insertion = counted.0 }), counted.1)).1

@@ -5,23 +5,24 @@ use Rattle.halfbrown.proofs.map.LimitedHashMap.entry_counted.Goals as goal
 
 pub returns-in-Ok-Held : goal.returns-in-Ok-Held
 returns-in-Ok-Held g c =
-    let same = g.K.PartialEq.eq in
+    let eq = g.K.PartialEq.eq in
     let laws = g.met.K.Eq.laws in
     let limit = g.L.Limit.LIMIT in
     let old = c.args.self.now in
     let key = c.args.key in
     let prepares = c.in-Ok-Held.ensures.prepares in
-    let at = subst (IsPreparedFor same g.S.KeyHasher.hash c.prepare.new.self key)
+    let at = subst (IsPreparedFor eq g.S.KeyHasher.hash c.prepare.new.self key)
     c.in-Ok-Held.field-0-is c.in-Ok-Held.ensures.place in (
       (refl, λ n. refl, tt),
       record {
         unchanged = tt;
         makes = record {
           same_map = refl;
-          ok = prepares.ok;
-          entry = found_key limit same laws old key _ prepares.ok prepares.valid.distinct _ at.0;
+          entry = found_key limit eq laws old key _ prepares.ok prepares.valid.distinct _ at.0;
           new_key = λ held. cc held;
-          writes = found_writes limit same laws old key _ prepares.ok prepares.valid.distinct _ at.0;
+          writes = found_writes limit eq laws old key _ prepares.ok prepares.valid.distinct _ at.0;
+          ok = prepares.ok;
+          succeeds = λ enough. refl;
           returned = tt;
           valid = prepares.valid;
         };
@@ -31,23 +32,24 @@ returns-in-Ok-Held g c =
 
 pub returns-in-Ok-Vacant : goal.returns-in-Ok-Vacant
 returns-in-Ok-Vacant g c =
-    let same = g.K.PartialEq.eq in
+    let eq = g.K.PartialEq.eq in
     let laws = g.met.K.Eq.laws in
     let limit = g.L.Limit.LIMIT in
     let old = c.args.self.now in
     let key = c.args.key in
     let prepares = c.in-Ok-Vacant.ensures.prepares in
-    let place = subst (IsPreparedFor same g.S.KeyHasher.hash c.prepare.new.self key)
+    let place = subst (IsPreparedFor eq g.S.KeyHasher.hash c.prepare.new.self key)
     c.in-Ok-Vacant.field-0-is c.in-Ok-Vacant.ensures.place in (
       (refl, λ n. refl, tt),
       record {
         unchanged = tt;
         makes = record {
           same_map = refl;
-          ok = prepares.ok;
-          entry = missing_key limit same laws old key _ prepares.ok prepares.valid.distinct _ place.absent;
+          entry = missing_key limit eq laws old key _ prepares.ok prepares.valid.distinct _ place.absent;
           new_key = λ vacant. refl;
-          writes = missing_writes limit same laws old key _ prepares.ok prepares.valid.distinct _ place.absent;
+          writes = missing_writes limit eq laws old key _ prepares.ok prepares.valid.distinct _ place.absent;
+          ok = prepares.ok;
+          succeeds = λ enough. refl;
           returned = tt;
           valid = prepares.valid;
         };

@@ -1,5 +1,5 @@
 use Rattle.halfbrown.proofs.Common.{◌≡◌, false, ap, ◌∙◌, sym, subst, found_index, IsSearchCost, state_in, KeySearch, State, IsValid}
-use Rattle.halfbrown.specs.Costs.{IsHashedLookupCost}
+use Rattle.halfbrown.specs.Costs.{IsLookupCostByHash}
 use Rattle.halfbrown.proofs.lemmas.map.Find.{costs_for_other, found_is_index, looks_up, match_costs, matches_of}
 use Rattle.halfbrown.proofs.lemmas.map.Layout.{state_of}
 use Rattle.halfbrown.proofs.map.LimitedHashMap.find_hashed.Goals as goal
@@ -25,7 +25,7 @@ returns g c =
     record {
       found = subst (λ (m : State g.row.K.Denot g.row.V.Denot g.row.S.Denot). KeySearch test
           (g.S.KeyHasher.hash_writes m.builder (g.Q.Hash.hash_input c.args.key)) m c.find.result) c.self.view_is found;
-      cost = subst (λ (m : State g.row.K.Denot g.row.V.Denot g.row.S.Denot). IsHashedLookupCost g.S.KeyHasher g.Q.Hash.hash_input
+      cost = subst (λ (m : State g.row.K.Denot g.row.V.Denot g.row.S.Denot). IsLookupCostByHash g.S.KeyHasher g.Q.Hash.hash_input
           g.Q.Equivalent.equivalent c.args.key m c.args.tally.now c.find.new.tally) c.self.view_is
           (subst (λ index. IsSearchCost hashing own was index 0 c.args.tally.now c.find.new.tally)
           (found_is_index test own was c.find.result found)

@@ -2,7 +2,7 @@ use Rattle.halfbrown.proofs.Common.{List, ◌∙◌, sym, subst, inr, IfOk-weake
 use Rattle.std.proofs.IntoIterSteps.{All-taken}
 use Rattle.std.proofs.lemmas.Result.{IfErr-weaker}
 use Rattle.std.specs.Vec.Iter.{into_iter_steps}
-use Rattle.halfbrown.specs.FromIter.{AreFirst, Collects}
+use Rattle.halfbrown.specs.Collect.{AreFirst, Collects}
 use Rattle.halfbrown.proofs.lemmas.map.Collect.{gave_first, refusal_given}
 use Rattle.halfbrown.proofs.map.LimitedHashMap.from_array.Goals as goal
 

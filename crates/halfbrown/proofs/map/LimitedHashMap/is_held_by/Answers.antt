@@ -1,4 +1,4 @@
-use Rattle.halfbrown.proofs.Common.{arith, slice_get, ap, ◌∙◌, not, common_steps, holds_pair}
+use Rattle.halfbrown.proofs.Common.{arith, slice_get, ap, ◌∙◌, not, common_steps, holds_equal_pair}
 use Rattle.halfbrown.proofs.lemmas.map.Costs.{key_costs}
 use Rattle.halfbrown.proofs.lemmas.map.Equality.{held_unless, all_on, all_ends, costs_done, costs_on, costs_last}
 use Rattle.halfbrown.proofs.map.LimitedHashMap.is_held_by.Goals as goal
@@ -22,7 +22,7 @@ returns-then-ne-clause-cost g c =
 
 pub loop-index-preserved : goal.loop-index-preserved
 loop-index-preserved g c =
-    let test = holds_pair g.K.PartialEq.eq g.V.PartialEq.eq c.args.other.now.pairs in
+    let test = holds_equal_pair g.K.PartialEq.eq g.V.PartialEq.eq c.args.other.now.pairs in
     let hash = g.S2.KeyHasher.hash in
     let key = c.pair_at.result.0.now in
     let searched = key_costs g.K.PartialEq.eq hash c.args.other.now key _ _ _ (g.met.S2.KeyHasher.hash_is c.args.other.now.builder key)

@@ -1,4 +1,4 @@
-use Rattle.halfbrown.proofs.Common.{◌<◌, length, arith, ap, sym, subst, IsMapInvariant, IsAbsent, IsVacancyIn}
+use Rattle.halfbrown.proofs.Common.{◌<◌, length, arith, ap, sym, subst, IsMapInvariant, KeyMissing, IsVacancyIn}
 use Rattle.half_store.specs.Store.{IsVacancy}
 use Rattle.halfbrown.proofs.lemmas.pairs.Indices.{absent_of_unheld}
 use Rattle.halfbrown.proofs.lemmas.map.Layout.{kept_pushed, state_of}
@@ -11,8 +11,8 @@ invariant_of-self g c =
     let store = c.self.inside.store in
     let key = c.args.key in
     let vacancy = c.args.vacancy in
-    let absent : IsAbsent (eq key) store.pairs =
-    subst (IsAbsent (eq key)) (sym (ap (λ m. m.pairs) c.self.view_is))
+    let absent : KeyMissing (eq key) store.pairs =
+    subst (KeyMissing (eq key)) (sym (ap (λ m. m.pairs) c.self.view_is))
     (absent_of_unheld (eq key) c.args.self.now.pairs c.requires.absent) in
     let room : length store.pairs < store.capacity =
     omega (arith, c.requires.capacity, ap length (ap (λ m. m.pairs) c.self.view_is), ap (λ m. m.capacity) c.self.view_is) in

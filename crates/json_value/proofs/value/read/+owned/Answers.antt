@@ -2,7 +2,7 @@ use Rattle.std.proofs.Common.{◌≡◌, ◌+◌, [], ◌∷◌, ◌++◌, map, 
 use Rattle.std.proofs.lemmas.List.{take_all, take_more}
 use Rattle.std.specs.Str.{bytes_eq}
 use Rattle.std.specs.String.{string_bytes, string_eq}
-use Rattle.halfbrown.specs.FromIter.{collected}
+use Rattle.halfbrown.specs.Collect.{collected}
 use Rattle.halfbrown.specs.Pairs.{put}
 use Rattle.json.proofs.Trees.{view-Array, view-Object}
 use Rattle.json.specs.Value.{value_view, members_view, items_of}

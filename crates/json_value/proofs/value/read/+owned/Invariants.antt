@@ -1,6 +1,6 @@
 use Rattle.std.proofs.Common.{◌≡◌, map, take}
 use Rattle.std.specs.Str.{bytes_eq}
-use Rattle.halfbrown.specs.FromIter.{collected}
+use Rattle.halfbrown.specs.Collect.{collected}
 use Rattle.json.specs.Value.{members_view}
 use Rattle.json_value.proofs.Reading.{merged_view, seen}
 use Rattle.json_value.proofs.value.read.+owned.Given as goal

@@ -4,13 +4,12 @@ use Rattle.std.specs.Iterator.{Count, Yields, Drains}
 use Rattle.std.specs.Iterator.SizeHint.{IsWithinCount}
 use Rattle.std.specs.Option.{option_or}
 use mathlib.Core.Logic.{inl, inr}
-use Rattle.half_store.specs.Capacity.{is_vec_for}
 use Rattle.halfbrown.specs.CostRanges.{Cost, no_cost, add_costs}
 use Rattle.halfbrown.specs.Costs.{insert_cost}
-use Rattle.halfbrown.specs.CallerLoops.{add_keys, first_of_each}
-use Rattle.halfbrown.specs.Growth.{making_needs, insert_needs, Refusal, IsRefusal}
+use Rattle.halfbrown.specs.ByKey.{add_keys, first_of_each}
+use Rattle.halfbrown.specs.Growth.{capacity_for_making, capacity_for_insert, Refusal, IsRefusal}
 use Rattle.halfbrown.specs.Insertion.{Puts}
-use Rattle.halfbrown.specs.Making.{IsMade}
+use Rattle.halfbrown.specs.Making.{IsEmptyFor}
 use Rattle.halfbrown.specs.Pairs.{keys_of, put, value_of}
 use Rattle.halfbrown.specs.State.{State, IsValid}
 
@@ -41,7 +40,7 @@ module _ {K V S : Type 0} (limit : ℕ) (eq : K → K → Bool) where
   abbrev pub InsertsAll : State K V S → List (K × V) → State K V S → Type 0
   InsertsAll old [] new = new ≡ old
   InsertsAll old (p ∷ items) new = (next : State K V S)
-      × Puts limit eq old p.0 p.1 (insert_needs limit eq old p.0) next × IsValid limit eq next × InsertsAll next items new
+      × Puts limit eq old p.0 p.1 (capacity_for_insert limit eq old p.0) next × IsValid limit eq next × InsertsAll next items new
 
   -- from old to new these items are inserted: new keys come behind those held, in order, and each key has the last value that was given for it
   pub record Extends (old : State K V S) (items : List (K × V)) (new : State K V S) : Type 0 where
@@ -52,13 +51,13 @@ module _ {K V S : Type 0} (limit : ℕ) (eq : K → K → Bool) where
     pub inserted : InsertsAll old items new
 
   -- there are items of which `given` holds: all but the last were inserted, which made `new`, and there the last was refused
-  pub record RefusedInsert (given : List (K × V) → Type 0) (old : State K V S) (why : Refusal) (new : State K V S) : Type 0 where
+  pub record InsertRefused (given : List (K × V) → Type 0) (old : State K V S) (why : Refusal) (new : State K V S) : Type 0 where
     pub before : List (K × V)
     pub key : K
     pub value : V
     pub were_given : given (before ++ (key, value) ∷ [])
     pub inserted : InsertsAll old before new
-    pub refused : IsRefusal (insert_needs limit eq new key) why
+    pub refused : IsRefusal (capacity_for_insert limit eq new key) why
 
   module _ (is_default : S → Type 0) (needed : ℕ) where
     -- a map of these items: it was made with capacity for this many pairs, and the items were inserted one after another
@@ -68,19 +67,19 @@ module _ {K V S : Type 0} (limit : ℕ) (eq : K → K → Bool) where
       pub values : (k : K) → value_of eq m.pairs k ≡ last_value_of eq items k
       pub builder : is_default m.builder
       pub made : State K V S
-      pub is_made : IsMade is_default (is_vec_for limit needed) needed made
+      pub is_made : IsEmptyFor is_default limit needed made
       pub inserted : InsertsAll made items m
 
     -- a map was made with capacity for this many pairs, and then the insertion of an item was refused
-    pub record RefusedItem (given : List (K × V) → Type 0) (why : Refusal) : Type 0 where
+    pub record ItemRefused (given : List (K × V) → Type 0) (why : Refusal) : Type 0 where
       pub made : State K V S
-      pub is_made : IsMade is_default (is_vec_for limit needed) needed made
+      pub is_made : IsEmptyFor is_default limit needed made
       pub reached : State K V S
-      pub insertion : RefusedInsert given made why reached
+      pub insertion : InsertRefused given made why reached
 
     -- why items were not collected: the first capacity was refused, or the insertion of an item; `given` holds of the items up to it
-    abbrev pub RefusedCollect : (List (K × V) → Type 0) → Refusal → Type 0
-    RefusedCollect given why = IsRefusal (making_needs needed) why ⊎ RefusedItem given why
+    abbrev pub CollectRefused : (List (K × V) → Type 0) → Refusal → Type 0
+    CollectRefused given why = IsRefusal (capacity_for_making needed) why ⊎ ItemRefused given why
 
   -- what insertions cost, those that were granted and one that was refused
   module _ (hash : S → K → ℕ) where
@@ -90,7 +89,7 @@ module _ {K V S : Type 0} (limit : ℕ) (eq : K → K → Bool) where
         add_costs (insert_cost limit eq hash old p.0 true) (insertions_cost inserted.0 items new inserted.3)
 
     abbrev pub refused_cost : {given : List (K × V) → Type 0} {old : State K V S} {why : Refusal} {new : State K V S}
-        → RefusedInsert given old why new → Cost
+        → InsertRefused given old why new → Cost
     refused_cost {old = old} {new = new} r =
         add_costs (insertions_cost old r.before new r.inserted) (insert_cost limit eq hash new r.key false)
 
@@ -99,14 +98,14 @@ module _ {K V S : Type 0} (limit : ℕ) (eq : K → K → Bool) where
     collection_cost {items = items} {m = m} c = insertions_cost c.made items m c.inserted
 
     abbrev pub refused_collection_cost : {is_default : S → Type 0} {needed : ℕ} {given : List (K × V) → Type 0} {why : Refusal}
-        → RefusedCollect is_default needed given why → Cost
+        → CollectRefused is_default needed given why → Cost
     refused_collection_cost (inl refused) = no_cost
     refused_collection_cost (inr item) = refused_cost item.insertion
 
 -- items that come from an iterator: it is made from them, and each call of it is a step
 module _ {K V S C I : Type 0} (into : C → I → Type 0) (steps : I → Option (K × V) → I → Type 0) (limit : ℕ) (eq : K → K → Bool) where
   -- from old to new all that the iterator gave is inserted
-  pub record ExtendsIter (items : C) (old new : State K V S) : Type 0 where
+  pub record InsertsAllOfIter (items : C) (old new : State K V S) : Type 0 where
     pub iterator : I
     pub is_made : into items iterator
     pub gave : List (K × V)
@@ -114,10 +113,10 @@ module _ {K V S C I : Type 0} (into : C → I → Type 0) (steps : I → Option 
     pub extends : Extends limit eq old gave new
 
   -- the last item that was taken from the iterator was refused, and those before it are inserted
-  pub record RefusedExtendIter (items : C) (old new : State K V S) (why : Refusal) : Type 0 where
+  pub record InsertsUntilRefused (items : C) (old new : State K V S) (why : Refusal) : Type 0 where
     pub iterator : I
     pub is_made : into items iterator
-    pub insertion : RefusedInsert limit eq (Gives steps iterator) old why new
+    pub insertion : InsertRefused limit eq (Gives steps iterator) old why new
 
   module _ (left : I → Count) (is_default : S → Type 0) where
     -- a map of all that the iterator gave, made with capacity for some number of pairs that is no more than it may give
@@ -131,9 +130,9 @@ module _ {K V S C I : Type 0} (into : C → I → Type 0) (steps : I → Option 
       pub collection : Collects limit eq is_default hint gave m
 
     -- why the items were not collected
-    pub record RefusedCollectIter (items : C) (why : Refusal) : Type 0 where
+    pub record CollectIterRefused (items : C) (why : Refusal) : Type 0 where
       pub iterator : I
       pub is_made : into items iterator
       pub hint : ℕ
       pub hinted : IsWithinCount hint (left iterator)
-      pub refused : RefusedCollect limit eq is_default hint (Gives steps iterator) why
+      pub refused : CollectRefused limit eq is_default hint (Gives steps iterator) why

@@ -1,0 +1,99 @@
+//! Keys and values that tell what becomes of them.
+ghost use Rattle.std.specs.Prelude.{◌≡◌, ◌==◌};
+ghost use Rattle.std.specs.Hash as fed;
+ghost use Rattle.std.specs.Cmp.Rules.{comparing, hashing};
+ghost use Rattle.std.proofs.Common.{rules};
+
+use std::alloc::AllocError;
+use std::cell::Cell;
+use std::hash::{Hash, Hasher};
+
+/// The digits of the items that were dropped, in order; how many items live, and how many clones of them are granted yet.
+#[derive(Drop)]
+pub struct Told {
+    pub dropped: Cell<u64>,
+    pub living: Cell<u64>,
+    pub granted: Cell<u64>,
+}
+
+impl Told {
+    pub fn new() -> Told {
+        Told {
+            dropped: Cell::new(0),
+            living: Cell::new(0),
+            granted: Cell::new(0),
+        }
+    }
+}
+
+/// A key or a value. Those of one ID are equal.
+pub struct Item<'a> {
+    pub id: u64,
+    pub digit: u64,
+    told: &'a Told,
+}
+
+impl<'a> Item<'a> {
+    // Its ID is its digit.
+    pub fn new(digit: u64, told: &'a Told) -> Item<'a> {
+        Item::equal_to(digit, digit, told)
+    }
+
+    pub fn equal_to(id: u64, digit: u64, told: &'a Told) -> Item<'a> {
+        told.living.set(told.living.get().saturating_add(1));
+        Item { id, digit, told }
+    }
+}
+
+impl Drop for Item<'_> {
+    fn drop(self) {
+        let Item { id: _, digit, told } = self;
+        told.living.set(told.living.get().saturating_sub(1));
+        let digits = told.dropped.get().wrapping_mul(10);
+        told.dropped.set(digits.wrapping_add(digit));
+    }
+}
+
+impl Clone for Item<'_> {
+    ghost is_clone = { λ a b. b.id ≡ a.id };
+
+    fn clone(&self) -> Result<Self, AllocError> {
+        let granted = self.told.granted.get();
+        if granted == 0 {
+            return Err(AllocError);
+        }
+        self.told.granted.set(granted - 1);
+        self.told
+            .living
+            .set(self.told.living.get().saturating_add(1));
+        Ok(Item {
+            id: self.id,
+            digit: self.digit,
+            told: self.told,
+        })
+    }
+}
+
+impl PartialEq for Item<'_> {
+    ghost eq = { λ a b. a.id == b.id };
+
+    ghost laws = { Prim.search (comparing, rules) };
+
+    fn eq(&self, other: &Self) -> bool {
+        self.id == other.id
+    }
+}
+
+impl Eq for Item<'_> {
+    ghost laws = { Prim.search (comparing, rules) };
+}
+
+impl Hash for Item<'_> {
+    ghost hash_input = { λ key. fed.u64 key.id };
+
+    ghost respects_eq = { Prim.search (hashing, rules) };
+
+    fn hash<H: Hasher>(&self, state: &mut H) {
+        self.id.hash(state);
+    }
+}
