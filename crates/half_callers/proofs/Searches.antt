@@ -12,7 +12,7 @@ use Rattle.halfbrown.specs.CostRanges.{TallyGrewBy, NumberGrewWithin, exactly}
 use Rattle.halfbrown.specs.Costs.{IsKeySearchCost, IsInsertCost, key_search_cost, insert_cost, search_cost}
 use Rattle.halfbrown.specs.Lookup.{FindsMatch, IsMatchCost}
 use Rattle.halfbrown.specs.Pairs.{swap_out}
-use Rattle.halfbrown.specs.State.{State, WithPairs, make_state}
+use Rattle.halfbrown.specs.State.{State, WithPairs, state_with}
 use Rattle.test_support.specs.declared.builders.Rule.{Rule}
 use Rattle.test_support.specs.declared.builders.Counting.{Counting}
 use Rattle.test_support.specs.Hashes.{hash_by, shifted}
@@ -43,10 +43,10 @@ builder_hash builder k = number_hash builder.rule k
 module _ (rule : Rule) (keys : List ℕ) (capacity : ℕ) (m : State ℕ ℕ Counting) (table : IsTableOf rule keys capacity m) where
   -- the table of these parts
   abbrev known : State ℕ ℕ Counting
-  known = make_state m false (twins keys) capacity m.builder
+  known = state_with m false (twins keys) capacity m.builder
 
-  known_is : m ≡ make_state m false (twins keys) capacity m.builder
-  known_is i = make_state m (table.form i) (table.pairs i) (table.capacity i) m.builder
+  known_is : m ≡ state_with m false (twins keys) capacity m.builder
+  known_is i = state_with m (table.form i) (table.pairs i) (table.capacity i) m.builder
 
   -- after a removal
   pub table_without : (k : ℕ) (left : List ℕ) → swap_out eqb (twins keys) k ≡ twins left → (new : State ℕ ℕ Counting)

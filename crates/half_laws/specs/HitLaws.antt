@@ -6,7 +6,7 @@ use Rattle.std.specs.Prelude.{◌≡◌, ℕ, ◌+◌, ◌<◌, Bool, false, len
 use Rattle.std.specs.Map.{keys_of}
 use Rattle.half_store.specs.Capacity.{buckets_of}
 use Rattle.half_store.specs.PairLists.{index_of}
-use Rattle.half_store.specs.Reach.{filling_reach}
+use Rattle.half_store.specs.Reach.{filling_reads_in}
 use Rattle.half_store.specs.Work.{Work, sum_below}
 use Rattle.half_mean.specs.Mean.{sum_lists, filling_cases, MeanIsAtMost}
 use Rattle.halfbrown.specs.Costs.{IsSearchCost, hit_reads, filling_reads}
@@ -39,12 +39,12 @@ module _ {K : Type 0} (V : Type 0) {S : Type 0} (limit : ℕ) (eq : K → K → 
 -- the order of the insertions does not matter
 abbrev pub FillingOrderLaw : Type 0
 FillingOrderLaw = (buckets : ℕ) (some others : List ℕ) → length some < buckets → IsPermutation some others
-    → filling_reach buckets some ≡ filling_reach buckets others
+    → filling_reads_in buckets some ≡ filling_reads_in buckets others
 
 -- what the searches for all held pairs read in all cases: each list of `held` hashes in a table of this capacity. All hashes
 -- are below `hashes`
 abbrev pub total_hits : (hashes capacity held : ℕ) → ℕ
-total_hits hashes capacity held = sum_lists hashes held (λ list. filling_reach (buckets_of capacity) list)
+total_hits hashes capacity held = sum_lists hashes held (λ list. filling_reads_in (buckets_of capacity) list)
 
 -- the mean over these cases and their pairs is at most `over / under`
 abbrev pub MeanHitIsAtMost : (over under hashes capacity held : ℕ) → Type 0

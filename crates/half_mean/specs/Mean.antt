@@ -5,7 +5,7 @@
 use Rattle.std.specs.Prelude.{◌≡◌, ℕ, zero, suc, ◌+◌, ◌-◌, ◌*◌, ◌^◌, ◌<◌, ◌≤◌, List, [], ◌∷◌, length}
 use Rattle.half_store.specs.Capacity.{IsBucketCount, capacity_of}
 use Rattle.half_store.specs.Reach.{reach}
-pub use Rattle.half_store.specs.Reach.{filling_reach}
+pub use Rattle.half_store.specs.Reach.{filling_reads_in}
 pub use Rattle.half_store.specs.Work.{sum_below}
 
 -- the sum over all lists of `size` numbers below `count`
@@ -24,7 +24,7 @@ reach_cases hashes held = hashes ^ (held + 1)
 
 -- the buckets that the insertions read in all cases: each list of `held` hashes below `hashes`, and each insertion of it
 unfoldable pub total_filling : (hashes buckets held : ℕ) → ℕ
-total_filling hashes buckets held = sum_lists hashes held (λ list. filling_reach buckets list)
+total_filling hashes buckets held = sum_lists hashes held (λ list. filling_reads_in buckets list)
 
 -- the number of these cases
 abbrev pub filling_cases : (hashes held : ℕ) → ℕ

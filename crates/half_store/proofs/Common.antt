@@ -12,7 +12,7 @@ pub use Rattle.std.specs.List.{AllZip, slice_get, swap_remove, remove, zip}
 pub use Rattle.half_store.specs.Capacity.{capacity_of, IsBucketCount, buckets_of}
 pub use Rattle.half_store.specs.Columns.{ColumnsState}
 pub use Rattle.half_store.specs.PairLists.{set_key_at, set_value_at, set_values, swap_remove_at}
-pub use Rattle.half_store.specs.Reach.{reach, filling_reach, probe_distance, bucket_after, home, load, bucket_is_loaded}
+pub use Rattle.half_store.specs.Reach.{reach, filling_reads_in, probe_distance, bucket_after, home, load, bucket_is_loaded}
 pub use Rattle.half_store.specs.Search.{ReturnsAt}
 pub use Rattle.half_store.specs.Slots.{slots_from, slot_at, hash_of_word, EachOnce, HasVacantSlot, ProbeInvariant, stored, IsSlotVacancy, distance_from_home}
 pub use Rattle.half_store.specs.Store.{vector_of, table_of}

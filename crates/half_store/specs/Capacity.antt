@@ -60,8 +60,8 @@ abbrev pub shrunk_capacity : ℕ → Bool → ℕ → ℕ
 shrunk_capacity limit is_vec pairs = least_capacity (is_vec_shrunk limit is_vec pairs) pairs
 
 -- of this many pairs as many as a form may hold: in a vector no more than the limit, in a table all
-abbrev pub pairs_within_limit : ℕ → Bool → ℕ → ℕ
-pairs_within_limit limit is_vec pairs = if is_vec then min pairs limit else pairs
+abbrev pub pairs_capped : ℕ → Bool → ℕ → ℕ
+pairs_capped limit is_vec pairs = if is_vec then min pairs limit else pairs
 
 -- the capacity that is wanted, if it is more than there is; otherwise none
 abbrev pub capacity_needed : ℕ → ℕ → Option ℕ
@@ -74,7 +74,7 @@ capacity_after limit is_vec capacity needed =
     option_map_or (λ n. if is_vec then grown_capacity limit capacity n else least_table_capacity n) needed capacity
 
 -- the capacity of a bucket count is enough for this many pairs, and each other count that is enough for them is no smaller
-pub record IsLeastFor (pairs buckets : ℕ) : Type 0 where
+pub record IsLeastBucketCount (pairs buckets : ℕ) : Type 0 where
   pub count : IsBucketCount buckets
   pub serves : pairs ≤ capacity_of buckets
   pub least : (other : ℕ) → IsBucketCount other → pairs ≤ capacity_of other → buckets ≤ other

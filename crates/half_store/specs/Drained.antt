@@ -17,4 +17,4 @@ module _ {K V Z : Type 0} (keys : VecDeque K Z) (values : VecDeque V Z) where
   pub record AreEvenQueues (table : Option (Box TableState)) : Type 0 where
     pub length : length values.items ≡ length keys.items
     pub capacity : deque_capacity values ≡ deque_capacity keys
-    pub backed : IfSome table (λ t. capacity_of t.value.buckets ≡ deque_capacity keys)
+    pub same_capacity : IfSome table (λ t. capacity_of t.value.buckets ≡ deque_capacity keys)

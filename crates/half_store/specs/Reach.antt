@@ -47,6 +47,6 @@ module _ (hashes : List ℕ) (buckets : ℕ) where
   HomesApart = AllPairs (λ one other. home buckets one ≢ home buckets other) hashes
 
 -- how many buckets are read in all to insert these hashes into an empty table, the last one of the list first
-abbrev pub filling_reach : (buckets : ℕ) → List ℕ → ℕ
-filling_reach buckets [] = 0
-filling_reach buckets (hash ∷ before) = reach before buckets hash + filling_reach buckets before
+abbrev pub filling_reads_in : (buckets : ℕ) → List ℕ → ℕ
+filling_reads_in buckets [] = 0
+filling_reads_in buckets (hash ∷ before) = reach before buckets hash + filling_reads_in buckets before

@@ -1,5 +1,6 @@
 -- Why a call that needs more capacity may be refused.
-use Rattle.std.specs.Prelude.{◌≡◌, ℕ, ◌^◌, ◌≤◌, nat_lt, List, codes, Option, IfNone, IfSome, if◌then◌else◌}
+use Rattle.std.specs.Prelude.{◌≡◌, ℕ, ◌^◌, ◌≤◌, nat_lt, List, codes, Option, IfSome, if◌then◌else◌}
+use Rattle.std.specs.Option.{IsSomeAnd}
 use Rattle.std.specs.declared.io.ErrorKind.{ErrorKind}
 use Rattle.std.specs.declared.io.ErrorKind.TheVariants.{OutOfMemory, InvalidInput}
 pub use Rattle.half_store.specs.declared.refusal.Refusal.{Refusal}
@@ -11,7 +12,7 @@ refusal_of needed = if nat_lt (2 ^ 60) needed then Size else Memory
 
 -- a call that needs this much capacity was refused for this reason; one that needs none is never refused
 abbrev pub IsRefusal : Option ℕ → Refusal → Type 0
-IsRefusal needed why = IfNone needed ⊥ × IfSome needed (λ n. why ≡ refusal_of n)
+IsRefusal needed why = IsSomeAnd needed (λ n. why ≡ refusal_of n)
 
 -- what a granted call needed: capacity for no more than 2^60 pairs
 abbrev pub IsGrantable : Option ℕ → Type 0
@@ -23,6 +24,6 @@ text_of Memory = codes "memory could not be allocated"
 text_of Size = codes "more than 2^60 pairs"
 
 -- the kind of the `io::Error` that a reason becomes
-abbrev pub kind_of : Refusal → ErrorKind
-kind_of Memory = OutOfMemory
-kind_of Size = InvalidInput
+abbrev pub error_kind_of : Refusal → ErrorKind
+error_kind_of Memory = OutOfMemory
+error_kind_of Size = InvalidInput

@@ -6,7 +6,7 @@ use Rattle.std.specs.declared.alloc.AllocError.{AllocError}
 use Rattle.std.specs.Global.{Box}
 pub use Rattle.half_store.specs.declared.store.find.Found.{Found}
 pub use Rattle.half_store.specs.declared.store.find.Vacancy.{Vacancy}
-use Rattle.half_store.specs.Capacity.{capacity_of, least_table_capacity, least_capacity, pairs_within_limit, capacity_needed, capacity_after, IsFormCapacity, is_vec_for, is_vec_shrunk, shrunk_capacity}
+use Rattle.half_store.specs.Capacity.{capacity_of, least_table_capacity, least_capacity, pairs_capped, capacity_needed, capacity_after, IsFormCapacity, is_vec_for, is_vec_shrunk, shrunk_capacity}
 use Rattle.half_store.specs.Refusal.{Refusal, refusal_of, IsRefusal, IsGrantable}
 use Rattle.half_store.specs.Columns.{ColumnsState}
 use Rattle.half_store.specs.Table.{TableState, state_of_words, table_code, with_hash_in, IsTableVacancy, IsTablePlace}
@@ -36,7 +36,7 @@ module _ {K V : Type 0} where
   -- a table has a hash for each pair, and the capacity of the columns
   pub record TableFitsColumns (columns : ColumnsState K V) (t : TableState) : Type 0 where
     pub len : length t.hashes ≡ length columns.pairs
-    pub backed : capacity_of t.buckets ≡ columns.capacity
+    pub same_capacity : capacity_of t.buckets ≡ columns.capacity
 
   -- what is always true of the columns and the table
   abbrev pub IsStore : ColumnsState K V → Option (Box TableState) → Type 0
@@ -60,7 +60,7 @@ module _ {K V : Type 0} where
 
 module _ {K V : Type 0} (limit needed : ℕ) where
   -- a store with no pairs and the least capacity of its form for this many: a vector if the limit allows them, otherwise a table
-  pub record IsMadeFor (s : StoreState K V) : Type 0 where
+  pub record IsEmptyStoreFor (s : StoreState K V) : Type 0 where
     pub form : s.is_vec ≡ is_vec_for limit needed
     pub pairs : s.pairs ≡ []
     pub hashes : s.table.hashes ≡ []
@@ -69,7 +69,7 @@ module _ {K V : Type 0} (limit needed : ℕ) where
 
   -- such a store, or the reason why its memory was refused; for no pairs it takes none, and is not refused
   pub record MakesStore (result : Result (StoreState K V) Refusal) : Type 0 where
-    pub made : IfOk result IsMadeFor
+    pub made : IfOk result IsEmptyStoreFor
     pub grantable : OnOk result (IsGrantable (capacity_needed 0 needed))
     pub refused : IfErr result (IsRefusal (capacity_needed 0 needed))
 
@@ -82,14 +82,14 @@ pub record MakesTable {K V : Type 0} (old new : StoreState K V) (needed : ℕ) (
   pub enough : OnOk result (needed ≤ least_table_capacity needed)
   pub series : OnOk result (least_table_capacity needed ≡ least_table_capacity (least_table_capacity needed))
   pub columns : OnOk result (new.capacity ≡ max old.capacity (least_table_capacity needed))
-  pub granted : OnOk result (needed ≤ 2 ^ 60)
+  pub grantable : OnOk result (needed ≤ 2 ^ 60)
   pub refused : IfErr result (λ why. why ≡ refusal_of needed)
-  pub err : OnErr result (new ≡ old)
+  pub unchanged : OnErr result (new ≡ old)
 
 module _ {K V : Type 0} (limit : ℕ) (s : StoreState K V) (additional : ℕ) where
   -- for how many pairs in all a reservation for this many more is
   abbrev pub reserve_wanted : ℕ
-  reserve_wanted = pairs_within_limit limit s.is_vec (length s.pairs + additional)
+  reserve_wanted = pairs_capped limit s.is_vec (length s.pairs + additional)
 
   -- the capacity that it needs, or none if there is enough
   abbrev pub capacity_for_reserve : Option ℕ
@@ -107,7 +107,7 @@ module _ {K V : Type 0} (limit : ℕ) (old new : StoreState K V) where
     pub allowed : IsFormCapacity limit old.is_vec old.capacity → IsFormCapacity limit new.is_vec new.capacity
     pub grantable : OnOk result (IsGrantable (capacity_for_reserve limit old additional))
     pub refused : IfErr result (IsRefusal (capacity_for_reserve limit old additional))
-    pub err : OnErr result (new ≡ old)
+    pub unchanged : OnErr result (new ≡ old)
 
   -- capacity, and a table that is not needed, are given back; only a smaller capacity for some pairs may be refused: then nothing changes
   pub record StoreShrinks (result : Result (Unit {0}) AllocError) : Type 0 where
@@ -117,7 +117,7 @@ module _ {K V : Type 0} (limit : ℕ) (old new : StoreState K V) where
     pub hashes : new.is_vec ≡ false → new.table.hashes ≡ old.table.hashes
     pub fits : OnOk result (length old.pairs ≤ new.capacity)
     pub allowed : IsFormCapacity limit old.is_vec old.capacity → length old.pairs ≤ old.capacity → IsFormCapacity limit new.is_vec new.capacity
-    pub err : OnErr result (new ≡ old)
+    pub unchanged : OnErr result (new ≡ old)
     pub some : OnErr result (0 < shrunk_capacity limit old.is_vec (length old.pairs))
     pub less : OnErr result (shrunk_capacity limit old.is_vec (length old.pairs) < old.capacity)
 

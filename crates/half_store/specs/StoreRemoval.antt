@@ -17,8 +17,8 @@ pub record RenamesLast (hashes old : List ℕ) (index : ℕ) (new : List ℕ) (b
   pub reads : ReadsWithin (reads_up_to (length old) (slice_index hashes (length hashes - 1)) bucket) before after
 
 -- closing the gap at this bucket reads those after it, up to any empty one
-abbrev pub ShiftsUpTo : List ℕ → List ℕ → ℕ → Work → Work → Type 0
-ShiftsUpTo hashes old removed before after = (vacant : ℕ) → IsOtherEmpty (slots_from hashes (slice_set old removed 0)) removed vacant →
+abbrev pub ShiftReadsWithin : List ℕ → List ℕ → ℕ → Work → Work → Type 0
+ShiftReadsWithin hashes old removed before after = (vacant : ℕ) → IsOtherEmpty (slots_from hashes (slice_set old removed 0)) removed vacant →
     ReadsWithin (probe_distance (length old) removed vacant) before after
 
 module _ {K V : Type 0} (old new : StoreState K V) where

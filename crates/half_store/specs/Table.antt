@@ -4,14 +4,14 @@ use Rattle.std.specs.Coded.{Coded, coded×, coded_list, coded_ℕ}
 use base.Stored.{coded_via}
 use Rattle.half_store.specs.Slots.{IsSlotVacancy, slot_at, distance_from_home, ProbeInvariant, slots_from, EachOnce, bucket_of}
 use Rattle.half_store.specs.Capacity.{capacity_of, IsBucketCount, buckets_of}
-use Rattle.half_store.specs.Words.{AreWordsFor, room_of, most_in, IsUnfilled, IsUnfilledVec}
+use Rattle.half_store.specs.Words.{AreWordsFor, room_of, greatest_word_in, HasNoWords, IsEmptyVec}
 use Rattle.half_store.specs.declared.words.WordMemory.{WordMemory}
 use Rattle.std.specs.declared.vec.Vec.{Vec}
 use Rattle.std.specs.List.{swap_remove}
 use Rattle.std.specs.Option.{option_map}
 use Rattle.std.specs.Result.{result_ok}
 use Rattle.half_store.specs.Work.{work_after_miss, IsTableHitCost, Work, reads_up_to, sum_below}
-use Rattle.half_store.specs.Reach.{reach, filling_reach}
+use Rattle.half_store.specs.Reach.{reach, filling_reads_in}
 
 -- what callers see: the stored hashes by entry index, and how many buckets there are; the words of the buckets are private
 pub record TableState : Type 0 where
@@ -82,10 +82,10 @@ pub record IsTable (hashes words : List ℕ) (most capacity : ℕ) : Type 0 wher
 -- what is always true of memory for a table: nothing is filled, and it is as much as `IsTable` says
 pub record IsTableMemory {Z : Type 0} (hashes : Vec ℕ Z) (words : WordMemory) : Type 0 where
   pub count : IsBucketCount (room_of words)
-  pub sized : AreWordsFor (most_in words) (capacity_of (room_of words))
+  pub sized : AreWordsFor (greatest_word_in words) (capacity_of (room_of words))
   pub exact : vec_capacity hashes ≡ capacity_of (room_of words)
-  pub no_hashes : IsUnfilledVec hashes
-  pub no_words : IsUnfilled words
+  pub no_hashes : IsEmptyVec hashes
+  pub no_words : HasNoWords words
 
 -- what a search of a table cost that found the pair of this entry index, or none. The searches for all pairs, one each, read what insertions
 -- of their hashes read (`hits`)
@@ -93,7 +93,7 @@ pub record IsTableSearchCost (t : TableState) (hash : ℕ) (index : Option ℕ) 
   pub missing : IfNone index (new ≡ work_after_miss t.hashes t.buckets hash old)
   pub found : IfSome index (λ _. IsTableHitCost t.hashes t.buckets hash old new)
   pub hit : IfSome index (λ at. new.looked ≡ old.looked + hit_reads_in t at)
-  pub hits : all_hit_reads_in t (length t.hashes) ≡ filling_reach t.buckets t.hashes
+  pub hits : all_hit_reads_in t (length t.hashes) ≡ filling_reads_in t.buckets t.hashes
   pub short : reach t.hashes t.buckets hash ≤ length t.hashes + 1
 
 -- the entry index of a pair of this hash that the test accepts, and its bucket; or, if it rejects each, the empty bucket where the probe

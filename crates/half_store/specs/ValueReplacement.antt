@@ -6,8 +6,8 @@ use Rattle.half_store.specs.PairLists.{set_value_at, swap_remove_at}
 -- a pair whose value was replaced: in a vector it goes last, and the last pair takes its index, in a table it stays
 module _ {K V : Type 0} (is_vec : Bool) (pairs : List (K × V)) (index : ℕ) where
   -- its index then
-  abbrev pub index_if_kept : ℕ
-  index_if_kept = if is_vec then length pairs - 1 else index
+  abbrev pub index_after_replacing : ℕ
+  index_after_replacing = if is_vec then length pairs - 1 else index
 
   -- the pairs then, if it has this key and this value
   abbrev pub pairs_if_kept : K → V → List (K × V)

@@ -12,9 +12,9 @@ words_of (FourBytes v) = v
 words_of (EightBytes v) = v
 
 -- the greatest word: 2^32 - 1 in four bytes, 2^62 in eight
-abbrev pub most_of : WordArray → ℕ
-most_of (FourBytes v) = 2 ^ 32 - 1
-most_of (EightBytes v) = 2 ^ 62
+abbrev pub greatest_word : WordArray → ℕ
+greatest_word (FourBytes v) = 2 ^ 32 - 1
+greatest_word (EightBytes v) = 2 ^ 62
 
 -- the bytes of a word that may be as great as this: four exactly below 2^32
 abbrev pub word_size : ℕ → ℕ
@@ -30,17 +30,17 @@ abbrev pub room_of : WordMemory → ℕ
 room_of (MemoryOfFour v) = vec_capacity v
 room_of (MemoryOfEight v) = vec_capacity v
 
--- the greatest word that will fit, as in `most_of`
-abbrev pub most_in : WordMemory → ℕ
-most_in (MemoryOfFour v) = 2 ^ 32 - 1
-most_in (MemoryOfEight v) = 2 ^ 62
+-- the greatest word that will fit, as in `greatest_word`
+abbrev pub greatest_word_in : WordMemory → ℕ
+greatest_word_in (MemoryOfFour v) = 2 ^ 32 - 1
+greatest_word_in (MemoryOfEight v) = 2 ^ 62
 
 -- a vector with no element
-pub record IsUnfilledVec {Z : Type 0} (v : Vec ℕ Z) : Type 0 where
+pub record IsEmptyVec {Z : Type 0} (v : Vec ℕ Z) : Type 0 where
   pub items : v.items ≡ []
   pub len : vec_len v ≡ 0
 
 -- no word is there yet
-abbrev pub IsUnfilled : WordMemory → Type 0
-IsUnfilled (MemoryOfFour v) = IsUnfilledVec v
-IsUnfilled (MemoryOfEight v) = IsUnfilledVec v
+abbrev pub HasNoWords : WordMemory → Type 0
+HasNoWords (MemoryOfFour v) = IsEmptyVec v
+HasNoWords (MemoryOfEight v) = IsEmptyVec v

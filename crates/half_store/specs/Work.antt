@@ -36,19 +36,19 @@ pub record ReadsWithin (reads : ℕ) (old new : Work) : Type 0 where
   pub looked : new.looked ≤ old.looked + reads
 
 -- how many of the hashes are this one
-abbrev pub hash_count : List ℕ → ℕ → ℕ
-hash_count hashes hash = count_by (λ held. held == hash) hashes
+abbrev pub pairs_of_hash : List ℕ → ℕ → ℕ
+pairs_of_hash hashes hash = count_by (λ held. held == hash) hashes
 
 -- after a probe that found none: each held pair of that hash was compared, and exactly `reach` buckets were read
 abbrev pub work_after_miss : List ℕ → ℕ → ℕ → Work → Work
 work_after_miss hashes buckets hash w =
-    record w { compared = w.compared + hash_count hashes hash; looked = w.looked + reach hashes buckets hash }
+    record w { compared = w.compared + pairs_of_hash hashes hash; looked = w.looked + reach hashes buckets hash }
 
 -- what a probe that found a pair added
 pub record IsTableHitCost (hashes : List ℕ) (buckets hash : ℕ) (old new : Work) : Type 0 where
   pub asked : new.asked ≡ old.asked
   pub compared_some : old.compared + 1 ≤ new.compared
-  pub compared_most : new.compared ≤ old.compared + hash_count hashes hash
+  pub compared_most : new.compared ≤ old.compared + pairs_of_hash hashes hash
   pub looked_some : old.looked + 1 ≤ new.looked
   pub looked_most : new.looked + 1 ≤ old.looked + reach hashes buckets hash
   pub looked_once : HomesApart hashes buckets → new.looked ≡ old.looked + 1
@@ -67,5 +67,5 @@ abbrev pub removal_reads : List ℕ → ℕ → ℕ → ℕ
 removal_reads hashes buckets index = reach hashes buckets (slice_index hashes index) + reach hashes buckets (slice_index hashes (length hashes - 1)) - 1
 
 -- the most that it reads if the bucket of the pair is known, and no probe for it is made
-abbrev pub removal_reads_left : List ℕ → ℕ → ℕ → ℕ → ℕ
-removal_reads_left hashes buckets index bucket = removal_reads hashes buckets index - reads_up_to buckets (slice_index hashes index) bucket
+abbrev pub removal_reads_at : List ℕ → ℕ → ℕ → ℕ → ℕ
+removal_reads_at hashes buckets index bucket = removal_reads hashes buckets index - reads_up_to buckets (slice_index hashes index) bucket

@@ -3,7 +3,7 @@
 //! A table has no buckets, or a power of two from 4 on. The load factor is three quarters: the capacity is three quarters
 //! of the buckets, so at least one bucket stays empty and each probe ends.
 ghost use Rattle.std.specs.Prelude.{◌≡◌, ◌^◌, ◌≤◌};
-ghost use Rattle.half_store.specs.Capacity.{capacity_of, least_buckets, IsLeastFor};
+ghost use Rattle.half_store.specs.Capacity.{capacity_of, least_buckets, IsLeastBucketCount};
 
 /// The most pairs that a map may hold.
 pub const MOST_PAIRS: usize = 1 << 60;
@@ -26,7 +26,7 @@ pub fn capacity_of(buckets: usize) -> usize
 pub fn least_buckets(needed: usize) -> usize
     requires { needed ≤ 2 ^ 62 }
     ensures value { result ≡ least_buckets needed }
-    ensures least { IsLeastFor needed result }
+    ensures least { IsLeastBucketCount needed result }
 {
     if needed == 0 {
         return 0;

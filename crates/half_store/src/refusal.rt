@@ -1,7 +1,7 @@
 //! Why a call that needs more capacity failed.
 ghost use Rattle.std.specs.Prelude.{◌≡◌, ◌^◌, ◌<◌, ◌≤◌, Some, OnOk, IfErr};
 ghost use Rattle.std.specs.IoError.{error_kind};
-ghost use Rattle.half_store.specs.Refusal.{kind_of, text_of};
+ghost use Rattle.half_store.specs.Refusal.{error_kind_of, text_of};
 ghost use Rattle.half_store.specs.declared.refusal.Refusal.TheVariants.{Memory, Size};
 
 use crate::capacity::MOST_PAIRS;
@@ -60,7 +60,7 @@ impl From<Refusal> for AllocError {
 }
 
 impl From<Refusal> for io::Error {
-    ghost from_gives = { λ why error. error_kind error ≡ kind_of why };
+    ghost from_gives = { λ why error. error_kind error ≡ error_kind_of why };
 
     fn from(why: Refusal) -> io::Error {
         match why {

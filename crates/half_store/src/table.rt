@@ -10,7 +10,7 @@ ghost use Rattle.std.specs.Fn.{FnReturnsAt};
 ghost use Rattle.half_store.specs.Search.{CallableOnKeysOfHash, ReturnsAt};
 ghost use Rattle.half_store.specs.Reach.{reach};
 ghost use Rattle.half_store.specs.Capacity.{capacity_of, IsBucketCount, least_table_capacity, buckets_of};
-ghost use Rattle.half_store.specs.Work.{looked_more, reads_up_to, ReadsWithin, removal_reads_left};
+ghost use Rattle.half_store.specs.Work.{looked_more, reads_up_to, ReadsWithin, removal_reads_at};
 ghost use Rattle.half_store.specs.Table.{with_hash_in, IsTablePlace, IsTableVacancy, TableSearch, RemovesFromTable};
 
 mod deletion;
@@ -42,7 +42,7 @@ pub struct Table {
 impl Model for Table {
     ghost use Rattle.std.specs.Prelude.{vec_capacity};
     ghost use Rattle.half_store.specs.Table.{TableState, state_of_words, table_code, IsTable};
-    ghost use Rattle.half_store.specs.Words.{words_of, most_of};
+    ghost use Rattle.half_store.specs.Words.{words_of, greatest_word};
 
     ghost Value = { TableState };
 
@@ -50,7 +50,7 @@ impl Model for Table {
 
     ghost view = { λ t. state_of_words t.hashes.items (words_of t.buckets) };
 
-    ghost invariant = { λ t. IsTable t.hashes.items (words_of t.buckets) (most_of t.buckets)
+    ghost invariant = { λ t. IsTable t.hashes.items (words_of t.buckets) (greatest_word t.buckets)
         (vec_capacity t.hashes) };
 }
 
@@ -173,7 +173,7 @@ impl Table {
         requires within { index < length self.old.hashes }
         requires at { IsTablePlace self.old index bucket }
         ensures removes { RemovesFromTable self.old index self.new result }
-        ensures cost { ReadsWithin (removal_reads_left self.old.hashes self.old.buckets index bucket)
+        ensures cost { ReadsWithin (removal_reads_at self.old.hashes self.old.buckets index bucket)
             tally.old tally.new }
     {
         of_either_size!(

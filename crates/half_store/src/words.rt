@@ -4,7 +4,7 @@
 //! the words: each is read by `word_at`, which counts it.
 ghost use Rattle.std.specs.Prelude.{◌≡◌, ℕ, ◌-◌, ◌^◌, ◌<◌, ◌≤◌, List, [], length, replicate, slice_index, slice_set, IfOk, vec_len, vec_capacity};
 ghost use Rattle.half_store.specs.Capacity.{capacity_of, IsBucketCount};
-ghost use Rattle.half_store.specs.Words.{words_of, most_of, word_size, AreWordsFor, room_of, most_in, IsUnfilled};
+ghost use Rattle.half_store.specs.Words.{words_of, greatest_word, word_size, AreWordsFor, room_of, greatest_word_in, HasNoWords};
 ghost use Rattle.half_store.specs.Work.{looked_more};
 
 use crate::Tally;
@@ -164,7 +164,7 @@ impl Words for WordArray {
 }
 
 impl WordsMut for WordArray {
-    ghost most = { most_of };
+    ghost most = { greatest_word };
 
     #[inline(always)]
     fn set_word(&mut self, bucket: usize, word: usize) {
@@ -176,7 +176,7 @@ impl WordArray {
     /// Empties all buckets.
     pub(crate) fn clear(&mut self)
         ensures words { words_of self.new ≡ replicate (length (words_of self.old)) 0 }
-        ensures most { most_of self.new ≡ most_of self.old }
+        ensures most { greatest_word self.new ≡ greatest_word self.old }
     {
         of_either_size!(self, array => array.words.fill(0))
     }
@@ -194,9 +194,9 @@ pub enum WordMemory {
 impl WordMemory {
     /// The words of empty buckets, as many as there is memory for.
     pub(crate) fn into_empty(self) -> WordArray
-        requires { IsUnfilled self }
+        requires { HasNoWords self }
         ensures words { words_of result ≡ replicate (room_of self) 0 }
-        ensures most { most_of result ≡ most_in self }
+        ensures most { greatest_word result ≡ greatest_word_in self }
     {
         match self {
             WordMemory::FourBytes(words) => WordArray::FourBytes(WordVec::filled(words, 0)),
@@ -206,11 +206,11 @@ impl WordMemory {
 
     /// A copy of words that take as much memory.
     pub(crate) fn into_copy_of(self, words: &WordArray) -> WordArray
-        requires unfilled { IsUnfilled self }
+        requires unfilled { HasNoWords self }
         requires count { room_of self ≡ length (words_of words.now) }
-        requires size { word_size (most_in self) ≡ word_size (most_of words.now) }
+        requires size { word_size (greatest_word_in self) ≡ word_size (greatest_word words.now) }
         ensures words { words_of result ≡ words_of words.now }
-        ensures most { most_of result ≡ most_of words.now }
+        ensures most { greatest_word result ≡ greatest_word words.now }
     {
         match (self, words) {
             (WordMemory::FourBytes(memory), WordArray::FourBytes(words)) => {

@@ -107,7 +107,7 @@ module _ {K V S C I : Type 0} (into : C → I → Type 0) (steps : I → Option 
   -- from old to new all that the iterator gave is inserted
   pub record InsertsAllOfIter (items : C) (old new : State K V S) : Type 0 where
     pub iterator : I
-    pub is_made : into items iterator
+    pub from_items : into items iterator
     pub gave : List (K × V)
     pub drained : Drains steps iterator gave
     pub extends : Extends limit eq old gave new
@@ -115,14 +115,14 @@ module _ {K V S C I : Type 0} (into : C → I → Type 0) (steps : I → Option 
   -- the last item that was taken from the iterator was refused, and those before it are inserted
   pub record InsertsUntilRefused (items : C) (old new : State K V S) (why : Refusal) : Type 0 where
     pub iterator : I
-    pub is_made : into items iterator
+    pub from_items : into items iterator
     pub insertion : InsertRefused limit eq (Gives steps iterator) old why new
 
   module _ (left : I → Count) (is_default : S → Type 0) where
     -- a map of all that the iterator gave, made with capacity for some number of pairs that is no more than it may give
     pub record CollectsIter (items : C) (m : State K V S) : Type 0 where
       pub iterator : I
-      pub is_made : into items iterator
+      pub from_items : into items iterator
       pub hint : ℕ
       pub hinted : IsWithinCount hint (left iterator)
       pub gave : List (K × V)
@@ -132,7 +132,7 @@ module _ {K V S C I : Type 0} (into : C → I → Type 0) (steps : I → Option 
     -- why the items were not collected
     pub record CollectIterRefused (items : C) (why : Refusal) : Type 0 where
       pub iterator : I
-      pub is_made : into items iterator
+      pub from_items : into items iterator
       pub hint : ℕ
       pub hinted : IsWithinCount hint (left iterator)
       pub refused : CollectRefused limit eq is_default hint (Gives steps iterator) why

@@ -2,12 +2,12 @@
 use Rattle.std.specs.Prelude.{◌≡◌, ℕ, ◌+◌, ◌-◌, ◌≤◌, Bool, true, false, not, ◌&&◌, List, [], ◌∷◌, length, map, count_by, Option, IfSome, is_some, ◌==◌, nat_lt, if◌then◌else◌}
 use Rattle.std.specs.Hash.{HashWrites}
 use Rattle.halfbrown.specs.Ghosts.{HasherGhosts}
-use Rattle.half_store.specs.Reach.{reach, filling_reach, HomesApart}
+use Rattle.half_store.specs.Reach.{reach, filling_reads_in, HomesApart}
 use Rattle.half_store.specs.Capacity.{buckets_of, least_table_capacity}
 use Rattle.half_store.specs.Table.{hit_reads_in, all_hit_reads_in}
 use Rattle.half_store.specs.Work.{Work, first_match_cost}
 use Rattle.halfbrown.specs.CostRanges.{Cost, Range, TallyGrewBy, no_cost, plus_asked, plus_looked, unless_refused, exactly, between}
-use Rattle.halfbrown.specs.State.{State, make_state, store_in}
+use Rattle.halfbrown.specs.State.{State, state_with, store_in}
 use Rattle.halfbrown.specs.Pairs.{keys_of, index_of, holds}
 use Rattle.halfbrown.specs.Growth.{is_full, is_vec_after}
 
@@ -17,8 +17,8 @@ search_asked is_vec = if is_vec then 0 else 1
 
 module _ {K V : Type 0} (hash : K → ℕ) where
   -- how many held keys have this hash: a search for it in a table compares no other
-  abbrev pub key_hash_count : List (K × V) → ℕ → ℕ
-  key_hash_count pairs wanted = count_by (λ q. hash q == wanted) (keys_of pairs)
+  abbrev pub keys_of_hash : List (K × V) → ℕ → ℕ
+  keys_of_hash pairs wanted = count_by (λ q. hash q == wanted) (keys_of pairs)
 
   -- the length of an unsuccessful probe for this hash in a table of this capacity; a vector has no buckets
   abbrev pub miss_reads : Bool → ℕ → List (K × V) → ℕ → ℕ
@@ -35,7 +35,7 @@ module _ {K V : Type 0} (hash : K → ℕ) where
     abbrev pub search_compares : Bool → List (K × V) → Range
     search_compares is_vec pairs =
         if is_vec then between (first_match_cost found (length pairs)) (length pairs)
-        else (if is_some found then between 1 (key_hash_count pairs wanted) else exactly (key_hash_count pairs wanted))
+        else (if is_some found then between 1 (keys_of_hash pairs wanted) else exactly (keys_of_hash pairs wanted))
 
     -- its buckets: none in a vector; in a table exactly an unsuccessful probe if it found none, otherwise at least one and fewer than that
     abbrev pub search_reads : Bool → ℕ → List (K × V) → Range
@@ -58,7 +58,7 @@ all_hit_reads m = all_hit_reads_in (store_in m).table (length m.pairs)
 
 -- how many the insertions read in all that put these pairs into an empty table of this capacity
 abbrev pub filling_reads : {K V : Type 0} → (K → ℕ) → ℕ → List (K × V) → ℕ
-filling_reads hash capacity pairs = filling_reach (buckets_of capacity) (map hash (keys_of pairs))
+filling_reads hash capacity pairs = filling_reads_in (buckets_of capacity) (map hash (keys_of pairs))
 
 -- what a search under this hash cost, by the tally before it and after: it found this index, or none, and asked for `asked` hashes. In a
 -- table a search that finds an index reads the same number of buckets each time (`hit`), and these numbers add up to what insertions of the
@@ -129,11 +129,11 @@ module _ {K V S : Type 0} (limit : ℕ) where
 
   -- the map once a granted switch is made, as far as a cost depends on it: not on its table
   abbrev pub switched : State K V S → State K V S
-  switched m = make_state m (is_vec_after limit m) m.pairs (capacity_after_switch m) m.builder
+  switched m = state_with m (is_vec_after limit m) m.pairs (capacity_after_switch m) m.builder
 
   -- the same once the capacity is enough for one pair more
   abbrev pub grown : State K V S → State K V S
-  grown m = make_state m (is_vec_after limit m) m.pairs (capacity_after_growth m) m.builder
+  grown m = state_with m (is_vec_after limit m) m.pairs (capacity_after_growth m) m.builder
 
   module _ (eq : K → K → Bool) (hash : S → K → ℕ) where
     -- what an insertion of k costs: the switch hashes each key, one search follows in the form that it left, and, if a new key made

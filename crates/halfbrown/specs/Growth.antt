@@ -3,7 +3,7 @@
 use Rattle.std.specs.Prelude.{◌≡◌, ℕ, ◌+◌, ◌<◌, ◌≤◌, Bool, not, ◌&&◌, ◌==◌, nat_lt, length, Option, None, Some, Result, OnOk, OnErr, IsOk, IfErr, if◌then◌else◌}
 pub use Rattle.half_store.specs.declared.refusal.Refusal.{Refusal}
 pub use Rattle.half_store.specs.Refusal.{IsRefusal, IsGrantable}
-pub use Rattle.half_store.specs.Capacity.{pairs_within_limit, capacity_needed, capacity_after}
+pub use Rattle.half_store.specs.Capacity.{pairs_capped, capacity_needed, capacity_after}
 use Rattle.half_store.specs.Capacity.{is_vec_shrunk, shrunk_capacity}
 use Rattle.halfbrown.specs.State.{State, IsValid}
 use Rattle.halfbrown.specs.Pairs.{holds}
@@ -14,7 +14,7 @@ capacity_for_growth m = if nat_lt (length m.pairs) m.capacity then None else Som
 
 -- the capacity that a reservation for this many pairs more needs, or none if there is enough
 abbrev pub capacity_for_reserve : {K V S : Type 0} → ℕ → State K V S → ℕ → Option ℕ
-capacity_for_reserve limit m additional = capacity_needed m.capacity (pairs_within_limit limit m.is_vec (length m.pairs + additional))
+capacity_for_reserve limit m additional = capacity_needed m.capacity (pairs_capped limit m.is_vec (length m.pairs + additional))
 
 -- the capacity that a constructor for this many pairs needs
 abbrev pub capacity_for_making : ℕ → Option ℕ
@@ -42,7 +42,7 @@ module _ {K V S : Type 0} (limit : ℕ) where
   capacity_for_insert eq m k = if is_full m then Some (limit + 1) else (if holds eq m.pairs k then None else capacity_for_growth m)
 
   -- a granted call that needed this much capacity and changes no pair: the map is a vector exactly if `is_vec` says so
-  pub record OnlyMakesCapacity (is_vec : Bool) (old : State K V S) (needed : Option ℕ) (new : State K V S) : Type 0 where
+  pub record KeepsPairs (is_vec : Bool) (old : State K V S) (needed : Option ℕ) (new : State K V S) : Type 0 where
     pub pairs : new.pairs ≡ old.pairs
     pub form : new.is_vec ≡ is_vec
     pub capacity : new.capacity ≡ capacity_after limit is_vec old.capacity needed
@@ -51,15 +51,15 @@ module _ {K V S : Type 0} (limit : ℕ) where
 
   -- a granted reservation for this many pairs more: the capacity is enough for them; in a vector for no more pairs in all than the limit
   pub record IsReserved (old : State K V S) (additional : ℕ) (new : State K V S) : Type 0 where
-    pub enough : pairs_within_limit limit old.is_vec (length old.pairs + additional) ≤ new.capacity
-    pub granted : OnlyMakesCapacity old.is_vec old (capacity_for_reserve limit old additional) new
+    pub enough : pairs_capped limit old.is_vec (length old.pairs + additional) ≤ new.capacity
+    pub only_capacity : KeepsPairs old.is_vec old (capacity_for_reserve limit old additional) new
 
   -- a reservation for this many pairs more: it is granted, or it is refused and nothing has changed
   pub record ReservesOrRefuses (eq : K → K → Bool) (old : State K V S) (additional : ℕ) (result : Result (Unit {0}) Refusal) (new : State K V S) : Type 0 where
     pub ok : OnOk result (IsReserved old additional new)
     pub succeeds : capacity_for_reserve limit old additional ≡ None → IsOk result
     pub refused : IfErr result (IsRefusal (capacity_for_reserve limit old additional))
-    pub err : OnErr result (new ≡ old)
+    pub unchanged : OnErr result (new ≡ old)
     pub valid : IsValid limit eq new
 
   -- capacity is given back, and so is the table if the limit allows the pairs
@@ -70,11 +70,11 @@ module _ {K V S : Type 0} (limit : ℕ) where
     pub builder : new.builder ≡ old.builder
 
   -- giving capacity back needs memory: there are pairs, and a smaller capacity is enough for them
-  pub record NeedsToShrink (old : State K V S) : Type 0 where
+  pub record ShrinkingNeedsMemory (old : State K V S) : Type 0 where
     pub some : 0 < shrunk_capacity limit old.is_vec (length old.pairs)
     pub less : shrunk_capacity limit old.is_vec (length old.pairs) < old.capacity
 
   -- after `shrink_to_fit` capacity is given back; or, only if that needs memory, which may be refused, all may be as before
   pub data ShrinksOrStays (old new : State K V S) : Type 0 where
     GivesBack : IsShrunk old new → ShrinksOrStays old new
-    Stays : NeedsToShrink old → new ≡ old → ShrinksOrStays old new
+    Stays : ShrinkingNeedsMemory old → new ≡ old → ShrinksOrStays old new

@@ -2,7 +2,7 @@
 use Rattle.std.specs.Prelude.{◌≡◌, ℕ, Bool, Option, Some, None, Result, OnOk, OnErr, IsOk, IfOk, IfErr, ◌+◌, ◌<◌, nat_lt, length, if◌then◌else◌}
 use Rattle.std.specs.Result.{result_map_both}
 use Rattle.halfbrown.specs.declared.refused.Refused.{Refused}
-use Rattle.halfbrown.specs.Growth.{is_vec_after, capacity_for_insert, capacity_for_new_key, Refusal, IsRefusal, IsGrantable, capacity_after, OnlyMakesCapacity}
+use Rattle.halfbrown.specs.Growth.{is_vec_after, capacity_for_insert, capacity_for_new_key, Refusal, IsRefusal, IsGrantable, capacity_after, KeepsPairs}
 use Rattle.halfbrown.specs.Pairs.{keys_of, index_of, put, value_of}
 use Rattle.halfbrown.specs.State.{State, IsValid, state_in, store_in, IsPlacedIn, IsVacancyIn}
 use Rattle.halfbrown.specs.Updates.{HasPut}
@@ -64,13 +64,13 @@ module _ {K V S : Type 0} where
 
   -- a granted call that makes capacity for an insertion, which needed this much: the same pairs, and a full vector is a table now
   abbrev pub Prepares : ℕ → State K V S → Option ℕ → State K V S → Type 0
-  Prepares limit old = OnlyMakesCapacity limit (is_vec_after limit old) old
+  Prepares limit old needed new = KeepsPairs limit (is_vec_after limit old) old needed new
 
   -- a call that makes capacity for an insertion, which needs this much: it is granted, or it is refused and nothing has changed
   pub record PreparesOrRefuses {T : Type 0} (limit : ℕ) (eq : K → K → Bool) (old : State K V S) (needed : Option ℕ) (result : Result T Refusal) (new : State K V S) : Type 0 where
     pub ok : OnOk result (Prepares limit old needed new)
     pub refused : IfErr result (IsRefusal needed)
-    pub err : OnErr result (new ≡ old)
+    pub unchanged : OnErr result (new ≡ old)
     pub valid : IsValid limit eq new
 
   module _ (eq : K → K → Bool) (hash : S → K → ℕ) where

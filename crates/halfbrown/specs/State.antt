@@ -27,8 +27,8 @@ module _ {K V S : Type 0} where
   store_in m = record { is_vec = m.is_vec; pairs = m.pairs; capacity = m.capacity; table = m.table }
 
   -- the state of these parts, with the table of another
-  abbrev pub make_state : State K V S → Bool → List (K × V) → ℕ → S → State K V S
-  make_state m is_vec pairs capacity builder = record m { is_vec = is_vec; pairs = pairs; capacity = capacity; builder = builder }
+  abbrev pub state_with : State K V S → Bool → List (K × V) → ℕ → S → State K V S
+  state_with m is_vec pairs capacity builder = record m { is_vec = is_vec; pairs = pairs; capacity = capacity; builder = builder }
 
   -- a pair of this hash may be added here
   abbrev pub IsVacancyIn : State K V S → ℕ → Vacancy → Type 0

@@ -1,7 +1,7 @@
 //! The errors of an insertion, and of an entry.
 ghost use Rattle.std.specs.Prelude.{◌≡◌, ◌++◌, Some, codes};
 ghost use Rattle.std.specs.IoError.{error_kind};
-ghost use Rattle.half_store.specs.Refusal.{kind_of, text_of};
+ghost use Rattle.half_store.specs.Refusal.{error_kind_of, text_of};
 
 use half_store::Refusal;
 use std::alloc::AllocError;
@@ -51,7 +51,7 @@ impl<K: Drop, V: Drop> From<Refused<K, V>> for AllocError {
 }
 
 impl<K: Drop, V: Drop> From<Refused<K, V>> for io::Error {
-    ghost from_gives = { λ refused error. error_kind error ≡ kind_of refused.why };
+    ghost from_gives = { λ refused error. error_kind error ≡ error_kind_of refused.why };
 
     fn from(refused: Refused<K, V>) -> io::Error {
         refused.why.into()
@@ -97,7 +97,7 @@ impl<K: Drop> From<RefusedKey<K>> for AllocError {
 }
 
 impl<K: Drop> From<RefusedKey<K>> for io::Error {
-    ghost from_gives = { λ refused error. error_kind error ≡ kind_of refused.why };
+    ghost from_gives = { λ refused error. error_kind error ≡ error_kind_of refused.why };
 
     fn from(refused: RefusedKey<K>) -> io::Error {
         refused.why.into()

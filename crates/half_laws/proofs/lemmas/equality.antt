@@ -19,7 +19,7 @@ use Rattle.std.proofs.Math.Nat.{mul-le-mul_left}
 use Rattle.half_store.specs.PairLists.{index_of}
 use Rattle.half_store.specs.Work.{Work}
 use Rattle.halfbrown.specs.CostRanges.{Range, between, exactly}
-use Rattle.halfbrown.specs.Costs.{key_hash_count, miss_reads, search_asked, IsKeySearchCost, AreSearchCosts}
+use Rattle.halfbrown.specs.Costs.{keys_of_hash, miss_reads, search_asked, IsKeySearchCost, AreSearchCosts}
 use Rattle.halfbrown.specs.State.{State}
 
 module _ {K V : Type 0} (eq : K → K → Bool) (value_eq : V → V → Bool) (laws : IsEquivalence eq) where
@@ -37,9 +37,9 @@ module _ {K V : Type 0} (eq : K → K → Bool) (value_eq : V → V → Bool) (l
       )
 
 -- a search compares at most all keys
-compares_most : (is_vec held : Bool) (in_order key_hash_count most : ℕ) → key_hash_count ≤ most
-    → (cond is_vec (between in_order most) (cond held (between 1 key_hash_count) (exactly key_hash_count))).greatest ≤ most
-compares_most is_vec held in_order key_hash_count most table = grind (arith, common_steps)
+compares_most : (is_vec held : Bool) (in_order keys_of_hash most : ℕ) → keys_of_hash ≤ most
+    → (cond is_vec (between in_order most) (cond held (between 1 keys_of_hash) (exactly keys_of_hash))).greatest ≤ most
+compares_most is_vec held in_order keys_of_hash most table = grind (arith, common_steps)
 
 looks_most : (is_vec held : Bool) (probe : ℕ) → (cond is_vec (exactly 0) (cond held (between 1 (probe - 1)) (exactly probe))).greatest ≤ probe
 looks_most is_vec held probe = grind (arith, common_steps)

@@ -17,7 +17,7 @@ use Rattle.half_laws.proofs.lemmas.probes.{history_law as reach_history, crowdin
 use Rattle.halfbrown.specs.declared.run.Command.{Command}
 use Rattle.halfbrown.specs.declared.run.Command.TheVariants.{Insert, InsertNew, EntryOrInsert, RawOrInsert}
 use Rattle.halfbrown.specs.CostRanges.{Range, Cost, TallyGrewBy, NumberGrewWithin, exactly, between, add_ranges, no_cost}
-use Rattle.halfbrown.specs.Costs.{search_asked, key_hash_count}
+use Rattle.halfbrown.specs.Costs.{search_asked, keys_of_hash}
 use Rattle.halfbrown.specs.Costs.{miss_reads, search_compares, search_reads, search_cost, key_search_cost, switched, grown, insertion_reads}
 use Rattle.halfbrown.specs.Costs.{insert_cost, raw_insert_cost, new_key_cost, is_switch_refused, capacity_after_switch, capacity_after_growth}
 use Rattle.halfbrown.specs.Costs.{addition_grows, IsSearchCost, IsInsertCost}
@@ -27,7 +27,7 @@ use Rattle.half_laws.specs.MapLaws.{CommandBucketsLaw, finds_in_vector}
 use Rattle.halfbrown.specs.Growth.{is_full, is_vec_after}
 use Rattle.halfbrown.specs.Pairs.{holds, holds_by}
 use Rattle.halfbrown.specs.Run.{command_cost}
-use Rattle.halfbrown.specs.State.{State, make_state, IsValid, IsTableCapacity}
+use Rattle.halfbrown.specs.State.{State, state_with, IsValid, IsTableCapacity}
 use Rattle.halfbrown.proofs.lemmas.map.Growth.{full_len}
 use Rattle.halfbrown.proofs.lemmas.pairs.Indices.{absent_of_unheld, found_where_held}
 
@@ -194,8 +194,8 @@ module _ {K V S : Type 0} (hash : S → K → ℕ) where
     found-same : is_some (index_of test (keys_of xs)) ≡ is_some (index_of test (keys_of ys))
     found-same = found_where_held test xs ∙ held-same ∙ sym (found_where_held test ys)
 
-    key_hash_count-same : key_hash_count (hash builder) xs wanted ≡ key_hash_count (hash builder) ys wanted
-    key_hash_count-same = sym
+    keys_of_hash-same : keys_of_hash (hash builder) xs wanted ≡ keys_of_hash (hash builder) ys wanted
+    keys_of_hash-same = sym
         (sum_by-IsPermutation (λ q. cond (hash builder q == wanted) 1 0) (keys_of xs) (keys_of ys) (keys-permutation xs ys p))
 
     reach-same : (m : ℕ) → reach (map (hash builder) (keys_of xs)) m wanted ≡ reach (map (hash builder) (keys_of ys)) m wanted
@@ -205,7 +205,7 @@ module _ {K V S : Type 0} (hash : S → K → ℕ) where
     compares-same : (is_vec : Bool) → (is_vec && holds_by test xs) ≡ false
         → search_compares (hash builder) wanted (index_of test (keys_of xs)) is_vec xs
         ≡ search_compares (hash builder) wanted (index_of test (keys_of ys)) is_vec ys
-    compares-same is_vec unheld = grind (arith, common_steps, key_hash_count-same, comparisons-unheld, found-same, held-same, length_permutation)
+    compares-same is_vec unheld = grind (arith, common_steps, keys_of_hash-same, comparisons-unheld, found-same, held-same, length_permutation)
 
     looks-same : (is_vec : Bool) (capacity : ℕ)
         → search_reads (hash builder) wanted (index_of test (keys_of xs)) is_vec capacity xs
@@ -215,9 +215,9 @@ module _ {K V S : Type 0} (hash : S → K → ℕ) where
   pub history_law : HistoryLaw V hash
   history_law a b test wanted asked a_before a_after b_before b_after same unheld a_costs b_costs =
       let alike : cost_asking test wanted asked a
-      ≡ cost_asking test wanted asked (make_state a b.is_vec a.pairs b.capacity b.builder) =
-      λ i. cost_asking test wanted asked (make_state a (same.form i) a.pairs (same.capacity i) (same.builder i)) in
-      let moved : cost_asking test wanted asked (make_state a b.is_vec a.pairs b.capacity b.builder)
+      ≡ cost_asking test wanted asked (state_with a b.is_vec a.pairs b.capacity b.builder) =
+      λ i. cost_asking test wanted asked (state_with a (same.form i) a.pairs (same.capacity i) (same.builder i)) in
+      let moved : cost_asking test wanted asked (state_with a b.is_vec a.pairs b.capacity b.builder)
       ≡ cost_asking test wanted asked b = λ i. record {
         asked = asked;
         compared = compares-same b.builder a.pairs b.pairs same.pairs test wanted b.is_vec
@@ -251,10 +251,10 @@ module _ {K V S : Type 0} (hash : S → K → ℕ) where
     module _ (is_vec : Bool) (xs ys : List (K × V)) (capacity : ℕ) (builder : S) (some others : State K V S)
         (p : IsPermutation xs ys) where
       abbrev first : State K V S
-      first = make_state some is_vec xs capacity builder
+      first = state_with some is_vec xs capacity builder
 
       abbrev second : State K V S
-      second = make_state others is_vec ys capacity builder
+      second = state_with others is_vec ys capacity builder
 
       long : length xs ≡ length ys
       long = sym (length_permutation xs ys p)
@@ -341,10 +341,10 @@ module _ {K V S : Type 0} (hash : S → K → ℕ) where
     -- two maps of the same form, capacity and builder
     module _ (a b : State K V S) (same : HoldSamePairs a b) where
       abbrev moved : State K V S
-      moved = make_state a b.is_vec a.pairs b.capacity b.builder
+      moved = state_with a b.is_vec a.pairs b.capacity b.builder
 
       alike : a ≡ moved
-      alike = λ i. make_state a (same.form i) a.pairs (same.capacity i) (same.builder i)
+      alike = λ i. state_with a (same.form i) a.pairs (same.capacity i) (same.builder i)
 
       unheld-too : (k : K) → holds eq a.pairs k ≡ false → holds eq b.pairs k ≡ false
       unheld-too k unheld = sym (held-same b.builder a.pairs b.pairs same.pairs (eq k) (hash b.builder k)) ∙ unheld

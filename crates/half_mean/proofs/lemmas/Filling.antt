@@ -3,7 +3,7 @@ use Rattle.std.proofs.Common.{◌≡◌, ℕ, zero, suc, ◌+◌, ◌-◌, ◌*�
 use Rattle.std.proofs.Math.Nat.{pow-succ', mul_left_comm, mul-pos, mul-le-mul_left, mul-le-mul_right, le_of_mul-le-mul_right}
 use Rattle.std.proofs.lemmas.Nat.{mul-pow}
 use Rattle.half_store.specs.Reach.{reach}
-use Rattle.half_mean.specs.Mean.{sum_below, sum_lists, total_reach, total_filling, filling_reach, filling_cases, MeanFillingIsAtMost, MeanFillingLaw, AtLoad, HalfFullFillingLaw, CapacityFillingLaw}
+use Rattle.half_mean.specs.Mean.{sum_below, sum_lists, total_reach, total_filling, filling_reads_in, filling_cases, MeanFillingIsAtMost, MeanFillingLaw, AtLoad, HalfFullFillingLaw, CapacityFillingLaw}
 use Rattle.half_mean.proofs.lemmas.Sums.{below-plus, below-const, lists-plus, lists-swap}
 use Rattle.half_mean.proofs.lemmas.Homes.{filling_homes}
 use Rattle.half_mean.proofs.lemmas.Algebra.{pow-two}
@@ -13,9 +13,9 @@ use Rattle.half_mean.proofs.lemmas.Means.{mean_of_homes, scaled, up_to_half, up_
 pub filling-step : (m n : ℕ) → total_filling m m (suc n) ≡ total_reach m m n + m * total_filling m m n
 unfolding total_filling total_reach
 filling-step m n =
-    ap (sum_below m) (λ i x. lists-plus m n (λ w. reach w m x) (λ w. filling_reach m w) i)
-    ∙ below-plus m (λ x. sum_lists m n (λ w. reach w m x)) (λ x. sum_lists m n (λ w. filling_reach m w))
-    ∙ (λ i. sym (lists-swap m n m (λ w x. reach w m x)) i + below-const m (sum_lists m n (λ w. filling_reach m w)) i)
+    ap (sum_below m) (λ i x. lists-plus m n (λ w. reach w m x) (λ w. filling_reads_in m w) i)
+    ∙ below-plus m (λ x. sum_lists m n (λ w. reach w m x)) (λ x. sum_lists m n (λ w. filling_reads_in m w))
+    ∙ (λ i. sym (lists-swap m n m (λ w x. reach w m x)) i + below-const m (sum_lists m n (λ w. filling_reads_in m w)) i)
 
 filling-terms : (e n m : ℕ) → m ≡ suc e + n
     → e * (suc e * suc e + m * m) + e * suc e * ((m + suc e) * n) + m * m ≡ (m + e) * (suc n * (suc e * suc e))

@@ -6,7 +6,7 @@ use Rattle.std.proofs.lemmas.Nat.{mod-mul-add}
 use Rattle.half_store.specs.Reach.{home, probe_distance, load, reach}
 use Rattle.half_store.proofs.lemmas.table.Counts.{tick}
 use Rattle.half_store.proofs.lemmas.table.History.{reach-loads}
-use Rattle.half_mean.specs.Mean.{sum_below, sum_lists, total_reach, total_filling, filling_reach, HomesMeanLaw}
+use Rattle.half_mean.specs.Mean.{sum_below, sum_lists, total_reach, total_filling, filling_reads_in, HomesMeanLaw}
 use Rattle.half_mean.proofs.lemmas.Sums.{below-same, below-times, lists-times}
 
 -- the homes of a list
@@ -70,7 +70,7 @@ module _ (share m : ℕ) where
       ∙ sym (mul_assoc share (share ^ n) (sum_lists m n probes))
       ∙ ap (λ p. p * sum_lists m n probes) (sym (ap (λ e. share ^ e) (add-one n) ∙ pow-succ' share n))
 
-filling-homes : (m : ℕ) (w : List ℕ) → filling_reach m (homes m w) ≡ filling_reach m w
+filling-homes : (m : ℕ) (w : List ℕ) → filling_reads_in m (homes m w) ≡ filling_reads_in m w
 filling-homes m [] = refl
 filling-homes m (x ∷ w) = λ i. (reach-homes m w (home m x) ∙ reach-home m w x) i + filling-homes m w i
 
@@ -80,4 +80,4 @@ homes_law share m n some = probes-homes share m n (λ w h. reach w m h) (reach-h
 
 pub filling_homes : (share m n : ℕ) → total_filling (share * m) m n ≡ share ^ n * total_filling m m n
 unfolding total_filling
-filling_homes share m n = lists-homes share m n (filling_reach m) (filling-homes m)
+filling_homes share m n = lists-homes share m n (filling_reads_in m) (filling-homes m)

@@ -4,7 +4,7 @@ use Rattle.half_store.proofs.Common.{IsBucketCount, buckets_of}
 use Rattle.std.proofs.Math.Nat.{pow-le-pow_right}
 use Rattle.std.proofs.lemmas.Nat.{pow_pos, pow-add}
 use Rattle.std.proofs.lemmas.Grind.{pow_more}
-use Rattle.half_store.specs.Capacity.{next_bucket_count, bucket_count_for_one_more, least_buckets, IsLeastFor}
+use Rattle.half_store.specs.Capacity.{next_bucket_count, bucket_count_for_one_more, least_buckets, IsLeastBucketCount}
 use Rattle.half_store.specs.Capacity.{least_table_capacity}
 
 -- a bucket count that is not 0 is at least 4
@@ -51,8 +51,8 @@ capacity_of-more m (inr (k, two, e)) =
 pub capacity_of-below : (a b : ℕ) → capacity_of a < capacity_of b → a < b
 capacity_of-below a b h = omega arith
 
-pub IsLeastFor-more : (n m : ℕ) → IsLeastFor n m → IsLeastFor (suc n) (bucket_count_for_one_more n m)
-IsLeastFor-more n m l =
+pub IsLeastBucketCount-more : (n m : ℕ) → IsLeastBucketCount n m → IsLeastBucketCount (suc n) (bucket_count_for_one_more n m)
+IsLeastBucketCount-more n m l =
     elim (cases_lt n (capacity_of m)) [
       | inl lt ↦
           let e : bucket_count_for_one_more n m ≡ m = grind (arith, nat_tests) in
@@ -68,20 +68,20 @@ IsLeastFor-more n m l =
     ]
 
 -- the function returns the least bucket count that serves
-pub buckets_for-least : (n : ℕ) → IsLeastFor n (least_buckets n)
+pub buckets_for-least : (n : ℕ) → IsLeastBucketCount n (least_buckets n)
 unfolding least_buckets
 buckets_for-least zero = record { count = inl refl; serves = omega arith; least = λ o c s. omega arith }
-buckets_for-least (suc n) = IsLeastFor-more n (least_buckets n) (buckets_for-least n)
+buckets_for-least (suc n) = IsLeastBucketCount-more n (least_buckets n) (buckets_for-least n)
 
 -- there is only one
-pub IsLeastFor-unique : (n a b : ℕ) → IsLeastFor n a → IsLeastFor n b → a ≡ b
-IsLeastFor-unique n a b x y =
+pub IsLeastBucketCount-unique : (n a b : ℕ) → IsLeastBucketCount n a → IsLeastBucketCount n b → a ≡ b
+IsLeastBucketCount-unique n a b x y =
     let p = x.least b y.count y.serves in
     let q = y.least a x.count x.serves in
     omega arith
 
-pub buckets_for-is : (n m : ℕ) → IsLeastFor n m → m ≡ least_buckets n
-buckets_for-is n m l = IsLeastFor-unique n m (least_buckets n) l (buckets_for-least n)
+pub buckets_for-is : (n m : ℕ) → IsLeastBucketCount n m → m ≡ least_buckets n
+buckets_for-is n m l = IsLeastBucketCount-unique n m (least_buckets n) l (buckets_for-least n)
 
 -- a bucket count is a multiple of 4
 pub quarter : (m : ℕ) → IsBucketCount m → (q : ℕ) × (m ≡ 4 * q)

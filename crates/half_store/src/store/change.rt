@@ -7,7 +7,7 @@ ghost use Rattle.std.specs.Option.{option_map};
 ghost use Rattle.std.specs.Result.{result_err};
 ghost use Rattle.half_store.specs.PairLists.{swap_remove_at};
 ghost use Rattle.half_store.specs.StoreRemoval.{StoreSwapRemoves, StoreShiftRemoves};
-ghost use Rattle.half_store.specs.ValueReplacement.{index_if_kept, ReplacesValue};
+ghost use Rattle.half_store.specs.ValueReplacement.{index_after_replacing, ReplacesValue};
 ghost use Rattle.half_store.specs.Store.{store_pushed, IsPlaced, IsVacancy, SameFormAndCapacity};
 
 use super::Store;
@@ -67,7 +67,7 @@ impl<K, V> Store<K, V> {
         ensures replaces { ReplacesValue (F.post f) self.old.is_vec self.old.pairs found.index
             self.new.pairs (option_map (λ removed. removed.0) (result_err result)) }
         ensures at { IfOk result
-            (λ at. at.index ≡ index_if_kept self.old.is_vec self.old.pairs found.index) }
+            (λ at. at.index ≡ index_after_replacing self.old.is_vec self.old.pairs found.index) }
         ensures placed { IfOk result (IsPlaced self.new) }
         ensures hash { IfErr result (λ removed. self.old.is_vec ≡ false
             → slice_get self.old.table.hashes found.index ≡ Some removed.1) }

@@ -154,7 +154,7 @@ impl<K, V> Store<K, V> {
     pub fn switch_to(&mut self, table: Box<Table>)
         requires vector { self.old.is_vec ≡ true }
         requires len { length table.value.hashes ≡ length self.old.pairs }
-        requires backed { capacity_of table.value.buckets ≡ self.old.capacity }
+        requires same_capacity { capacity_of table.value.buckets ≡ self.old.capacity }
         ensures { self.new ≡ table_of
             (record { pairs = self.old.pairs; capacity = self.old.capacity }) table.value }
     {

@@ -5,9 +5,9 @@ ghost use Rattle.std.specs.Prelude.{◌≡◌, ◌+◌, ◌^◌, ◌<◌, ◌≤
 ghost use Rattle.std.specs.Prelude.{length, slice_get, slice_set, slice_index, vec_capacity};
 ghost use Rattle.std.specs.List.{swap_remove};
 ghost use Rattle.half_store.specs.Capacity.{IsBucketCount};
-ghost use Rattle.half_store.specs.Work.{reads_up_to, looked_more, ReadsWithin, removal_reads_left};
+ghost use Rattle.half_store.specs.Work.{reads_up_to, looked_more, ReadsWithin, removal_reads_at};
 ghost use Rattle.half_store.specs.Reach.{home, probe_distance, reach};
-ghost use Rattle.half_store.specs.StoreRemoval.{RenamesLast, ShiftsUpTo};
+ghost use Rattle.half_store.specs.StoreRemoval.{RenamesLast, ShiftReadsWithin};
 ghost use Rattle.half_store.specs.Table.{IsIndexed, IsIndexedWithGap};
 
 use super::probe::{home, next};
@@ -33,7 +33,7 @@ pub(super) fn remove_at<B: WordsMut>(
     ensures indexed { IsIndexed hashes.new.items (B.words buckets.new) }
     ensures len { length (B.words buckets.new) ≡ length (B.words buckets.old) }
     ensures most { B.most buckets.new ≡ B.most buckets.old }
-    ensures cost { ReadsWithin (removal_reads_left hashes.old.items (length (B.words buckets.old)) index
+    ensures cost { ReadsWithin (removal_reads_at hashes.old.items (length (B.words buckets.old)) index
         bucket) tally.old tally.new }
 {
     rename_last(buckets, hashes.as_slice(), index, bucket, tally);
@@ -128,7 +128,7 @@ fn backward_shift<B: WordsMut>(buckets: &mut B, hashes: &[u64], removed: usize, 
     ensures indexed { IsIndexed hashes.now (B.words buckets.new) }
     ensures len { length (B.words buckets.new) ≡ length (B.words buckets.old) }
     ensures most { B.most buckets.new ≡ B.most buckets.old }
-    ensures cost { ShiftsUpTo hashes.now (B.words buckets.old) removed tally.old tally.new }
+    ensures cost { ShiftReadsWithin hashes.now (B.words buckets.old) removed tally.old tally.new }
 {
     let count = buckets.count();
     let mut gap = removed;

@@ -9,7 +9,7 @@ ghost use Rattle.std.specs.Result.{result_err};
 ghost use Rattle.half_store.specs.Capacity.{IsFormCapacity};
 ghost use Rattle.half_store.specs.PairLists.{set_key_at, set_value_at, swap_remove_at};
 ghost use Rattle.half_store.specs.Work.{looked_more};
-ghost use Rattle.half_store.specs.ValueReplacement.{index_if_kept, ReplacesValue};
+ghost use Rattle.half_store.specs.ValueReplacement.{index_after_replacing, ReplacesValue};
 ghost use Rattle.halfbrown.specs.Costs.{miss_reads};
 ghost use Rattle.halfbrown.specs.Pairs.{holds};
 ghost use Rattle.halfbrown.specs.Insertion.{pushed};
@@ -159,7 +159,7 @@ impl<K: Eq + Hash, V, S: KeyHasher<K>, L: Limit> LimitedHashMap<K, V, S, L> {
         ensures replaces { ReplacesValue (F.post f) self.old.is_vec self.old.pairs found.index
             self.new.pairs (option_map (λ removed. removed.0) (result_err result)) }
         ensures at { IfOk result
-            (λ at. at.index ≡ index_if_kept self.old.is_vec self.old.pairs found.index) }
+            (λ at. at.index ≡ index_after_replacing self.old.is_vec self.old.pairs found.index) }
         ensures placed { IfOk result (IsPlacedIn self.new) }
         ensures after { WithPairs self.old self.new.pairs self.new }
         ensures hash { IfErr result

@@ -1,7 +1,7 @@
 -- A table that insertions fill, and what searches for its pairs read.
 use Rattle.half_store.proofs.Common.{◌≡◌, ◌≤◌, length, inr, refl, ◌∙◌, arith, ℕ, ◌-◌, ◌<◌, inl, sym, ap, Bool, List, Some, Option, None, subst, [], ◌∷◌, true}
 use Rattle.half_store.proofs.Common.{set, replicate, cases_lt, length-set, get_or_past, length-replicate, get_or-replicate, sum_by-cons, count_by-le-length}
-use Rattle.half_store.proofs.Common.{nat_lt, false, bucket_is_loaded, reach, filling_reach, probe_distance, bucket_after, home, slot_at, HasVacantSlot, ProbeInvariant, stored, IsSlotVacancy}
+use Rattle.half_store.proofs.Common.{nat_lt, false, bucket_is_loaded, reach, filling_reads_in, probe_distance, bucket_after, home, slot_at, HasVacantSlot, ProbeInvariant, stored, IsSlotVacancy}
 use Rattle.half_store.proofs.Common.{reads_up_to}
 use Rattle.half_store.specs.Reach.{load}
 use Rattle.std.proofs.lemmas.List.Folds.{sum_by-replicate}
@@ -136,7 +136,7 @@ module _ (m : ℕ) (w : List ℕ) (h : ℕ) (few : length w < m) where
       (crowd w (slots_with m w) made.ordered made.counted fewer h passed)
 
 -- the searches for the pairs of that table read what the insertions did
-pub filled : (m : ℕ) (w : List ℕ) → length w ≤ m → slot_reads m (slots_with m w) ≡ filling_reach m w
+pub filled : (m : ℕ) (w : List ℕ) → length w ≤ m → slot_reads m (slots_with m w) ≡ filling_reads_in m w
 filled m [] few = below-zero m _ (λ p l. ap (of_slot (λ h. reads_up_to m h p)) (all_vacant m p))
 filled m (x ∷ w) few =
     let t = table_of m w (omega arith) in

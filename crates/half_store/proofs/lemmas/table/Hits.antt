@@ -1,6 +1,6 @@
 -- What searches read that find their pairs: all together as much as insertions do that fill an empty table.
 use Rattle.half_store.proofs.Common.{◌≡◌, ◌≤◌, length, ◌+◌, inr, refl, ◌∙◌, arith, ℕ, ◌<◌, zero, suc, inl, sym, ap, Bool, List, Some, slice_index, Option, None}
-use Rattle.half_store.proofs.Common.{subst, [], ◌∷◌, true, false, ◌==◌, cond, cases_lt, eq-eqb, ne_eqb, filling_reach, probe_distance, home, bucket_is_loaded}
+use Rattle.half_store.proofs.Common.{subst, [], ◌∷◌, true, false, ◌==◌, cond, cases_lt, eq-eqb, ne_eqb, filling_reads_in, probe_distance, home, bucket_is_loaded}
 use Rattle.half_store.proofs.Common.{slots_from, slot_at, HasVacantSlot, ProbeInvariant, state_of_words, IsIndexed, reads_up_to}
 use Rattle.std.proofs.Common.{sum_by}
 use Rattle.std.proofs.lemmas.Bool.{cond-true, cond-false, both_ways, false≢true}
@@ -91,7 +91,7 @@ same_reads m hashes some others s o few =
     let none = unloaded_vacant o v.0 in_v u (none_unloaded s v.0 in_v v.2) in
     omega (arith, spread_of s v.0 in_v v.2, spread_of o v.0 in_v none)
 
-no_hashes : (m : ℕ) (hashes : List ℕ) → length hashes ≡ 0 → filling_reach m hashes ≡ 0
+no_hashes : (m : ℕ) (hashes : List ℕ) → length hashes ≡ 0 → filling_reads_in m hashes ≡ 0
 no_hashes m [] e = refl
 no_hashes m (x ∷ w) e = absurd (omega arith)
 
@@ -145,7 +145,7 @@ module _ {hashes words : List ℕ} (x : IsIndexed hashes words) where
   table = record { long = length-slots_from hashes words; ordered = x.ordered; counted = index-counted x }
 
   -- the searches for all held pairs read what the insertions of their hashes read
-  pub hits_add_up : all_hit_reads_in (state_of_words hashes words) (length hashes) ≡ filling_reach (length words) hashes
+  pub hits_add_up : all_hit_reads_in (state_of_words hashes words) (length hashes) ≡ filling_reads_in (length words) hashes
   unfolding all_hit_reads_in hit_reads_in
   hits_add_up =
       let m : ℕ = length words in

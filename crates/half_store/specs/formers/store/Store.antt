@@ -41,7 +41,7 @@ fields K = via (pair (columns.the_former this K) (const (Option (Box TableState)
 
 IsStore-prop : {K X : Type 0} (c : ColumnsState K X) (t : Option (Box TableState)) → IsProp (IsStore c t)
 IsStore-prop c None p q = refl
-IsStore-prop c (Some t) p q = λ i. record { len = ℕ_set _ _ p.len q.len i; backed = ℕ_set _ _ p.backed q.backed i }
+IsStore-prop c (Some t) p q = λ i. record { len = ℕ_set _ _ p.len q.len i; same_capacity = ℕ_set _ _ p.same_capacity q.same_capacity i }
 
 module _ {K X Y : Type 0} (h : X → Y) (c : ColumnsState K X) where
   abbrev mapped : ColumnsState K Y
@@ -53,11 +53,11 @@ module _ {K X Y : Type 0} (h : X → Y) (c : ColumnsState K X) where
 
   goes : (t : Option (Box TableState)) → IsStore c t → IsStore mapped t
   goes None p = tt
-  goes (Some t) p = record { len = p.len ∙ sym (length-map c.pairs (on_value h)); backed = p.backed }
+  goes (Some t) p = record { len = p.len ∙ sym (length-map c.pairs (on_value h)); same_capacity = p.same_capacity }
 
   comes : (t : Option (Box TableState)) → IsStore mapped t → IsStore c t
   comes None p = tt
-  comes (Some t) p = record { len = p.len ∙ length-map c.pairs (on_value h); backed = p.backed }
+  comes (Some t) p = record { len = p.len ∙ length-map c.pairs (on_value h); same_capacity = p.same_capacity }
 
 keeps : {K X : Type 0} (c : ColumnsState K X) (t : Option (Box TableState))
     → held (the_former this K) X (store_of c t) ≡ held (columns.the_former this K) X c

@@ -20,7 +20,7 @@ use Rattle.halfbrown.proofs.lemmas.pairs.SetBy.{has_put_by, has_set_by, passes_a
 use Rattle.halfbrown.proofs.lemmas.pairs.Changes.{values_of-set_key_at, key-set_key_at, swap_remove_at-set_key_at, key_of-pair, set_value_at-twice}
 use Rattle.halfbrown.proofs.lemmas.pairs.Changes.{value-set_value_at, swap_remove_at-set_value_at, set_value_at-last, value-last, pair-last}
 use Rattle.halfbrown.proofs.lemmas.pairs.Changes.{length-swap_remove_at}
-use Rattle.half_store.specs.ValueReplacement.{index_if_kept, pairs_if_kept, ReplacesValue}
+use Rattle.half_store.specs.ValueReplacement.{index_after_replacing, pairs_if_kept, ReplacesValue}
 use Rattle.halfbrown.specs.Replacement.{ReplacesEntry, IsReplaced, IsVacated}
 use Rattle.halfbrown.specs.Ghosts.{EqGhosts, HashGhosts, HasherGhosts, LimitGhosts}
 
@@ -194,7 +194,7 @@ module _ {K V : Type 0} where
     left : swap_remove_at qs j ≡ swap_remove_at ps i
 
   kept_at : (is_vec : Bool) (ps : List (K × V)) (i : ℕ) (k : K) (u v : V) → slice_get ps i ≡ Some (k, u) → i < length ps
-      → IsKeptAt is_vec ps i k v (pairs_if_kept is_vec ps i k v) (index_if_kept is_vec ps i)
+      → IsKeptAt is_vec ps i k v (pairs_if_kept is_vec ps i k v) (index_after_replacing is_vec ps i)
   kept_at true ps i k u v at within =
       let front = swap_remove_at ps i in
       let all = front ++ (k, v) ∷ [] in
@@ -215,7 +215,7 @@ module _ {K V : Type 0} where
   }
 
   module _ {returns : Bor K → V → Option V → Type 0} {is_vec : Bool} {ps qs : List (K × V)} {i j : ℕ} (within : i < length ps)
-      (r : ReplacesValue returns is_vec ps i qs None) (at : j ≡ index_if_kept is_vec ps i) where
+      (r : ReplacesValue returns is_vec ps i qs None) (at : j ≡ index_after_replacing is_vec ps i) where
     -- the pair whose value was replaced
     kept_there : IsKeptAt is_vec ps i r.key (kept_value r).0 qs j
     kept_there =
@@ -262,7 +262,7 @@ module _ {K V S L H : Type 0} {e : EqGhosts K} {h : HashGhosts K} {b : HasherGho
 
   -- the pair has another value
   pub keeps_pair : (map : MutBor (State K V S)) (index : ℕ) → ReplacesValue returns o.map.now.is_vec o.map.now.pairs o.index map.now.pairs None
-      → index ≡ index_if_kept o.map.now.is_vec o.map.now.pairs o.index → WithPairs o.map.now map.now.pairs map.now
+      → index ≡ index_after_replacing o.map.now.is_vec o.map.now.pairs o.index → WithPairs o.map.now map.now.pairs map.now
       → ReplacesEntry returns (occupied o) (record { map = map; index = Some index; vacant = None })
   unfolding map_with_value
   keeps_pair map index r at after =

@@ -4,7 +4,7 @@ use Rattle.std.proofs.lemmas.Bool.Decides.{nat_tests}
 use Rattle.std.specs.Prelude.{Some, None, if◌then◌else◌}
 use Rattle.half_store.specs.Capacity.{least_table_capacity}
 use Rattle.halfbrown.specs.Costs.{capacity_after_switch}
-use Rattle.halfbrown.specs.Growth.{capacity_for_switch, OnlyMakesCapacity}
+use Rattle.halfbrown.specs.Growth.{capacity_for_switch, KeepsPairs}
 
 pub and_false : (b : Bool) → (b && false) ≡ false
 and_false b = grind (arith, common_steps)
@@ -16,7 +16,7 @@ pub form_stays : (is_vec full : Bool) → full ≡ false → is_vec ≡ (is_vec 
 form_stays is_vec full e = grind (arith, common_steps)
 
 module _ {K V S : Type 0} (limit : ℕ) (old new : State K V S) where
-  capacity_by : (full : Bool) → OnlyMakesCapacity limit (old.is_vec && not full) old (if full then Some (limit + 1) else None) new
+  capacity_by : (full : Bool) → KeepsPairs limit (old.is_vec && not full) old (if full then Some (limit + 1) else None) new
       → new.capacity ≡ (if full then least_table_capacity (limit + 1) else old.capacity)
   capacity_by full granted = grind (arith, common_steps)
 

@@ -1,7 +1,7 @@
 use Rattle.half_store.proofs.Common.{◌≡◌, ◌≤◌, length, take, ◌++◌, refl, ◌∙◌, arith, ℕ, sym, ap, List, subst, replicate, drop, take_all, length-replicate}
 use Rattle.half_store.proofs.Common.{capacity_of, IsBucketCount, AreWordsFor, words_of}
 use Rattle.std.proofs.lemmas.List.{take_at}
-use Rattle.half_store.specs.Words.{most_of}
+use Rattle.half_store.specs.Words.{greatest_word}
 use Rattle.half_store.proofs.lemmas.table.Layout.{IsTable-as, count_seen}
 use Rattle.half_store.proofs.store.retain.retain_in_table.Given as given
 use Rattle.half_store.proofs.store.retain.retain_in_table.Goals as goal
@@ -61,7 +61,7 @@ invariant_of-table-2 g c =
     let len = c.rehash.ensures.len ∙ as_many (words_of c.table.inside.buckets) _ c.clear.ensures.words in
     let most = c.rehash.ensures.most ∙ c.clear.ensures.most in
     IsTable-as (sym c.as_slice.ensures.value) refl most c.rehash.ensures.indexed
-    (subst (λ n. AreWordsFor (most_of c.table.inside.buckets) (capacity_of n)) (sym len) x.sized)
+    (subst (λ n. AreWordsFor (greatest_word c.table.inside.buckets) (capacity_of n)) (sym len) x.sized)
     (c.truncate.ensures.capacity ∙ x.exact ∙ ap capacity_of (sym len))
 
 pub returns-clause-buckets : goal.returns-clause-buckets

@@ -1,8 +1,8 @@
 use Rattle.half_store.proofs.Common.{◌≡◌, length, take, ◌+◌, refl, ◌∙◌, arith, ℕ, ◌-◌, ◌<◌, suc, sym, ap, List, slice_index, subst, set, length-set}
 use Rattle.half_store.proofs.Common.{get_or_default, swap_remove, probe_distance, slots_from, IsIndexedWithGap, IsOtherEmpty, IsIndexed, Work, ReadsWithin}
 use Rattle.std.proofs.lemmas.Option.{slice_get_read}
-use Rattle.half_store.specs.Work.{removal_reads_left}
-use Rattle.half_store.specs.StoreRemoval.{RenamesLast, ShiftsUpTo}
+use Rattle.half_store.specs.Work.{removal_reads_at}
+use Rattle.half_store.specs.StoreRemoval.{RenamesLast, ShiftReadsWithin}
 use Rattle.half_store.proofs.lemmas.table.Layout.{IsIndexed-remove, vacant-remove}
 use Rattle.half_store.proofs.table.deletion.remove_at.Goals as goal
 
@@ -27,8 +27,8 @@ module _ {hs ws words : List ℕ} {index : ℕ} (bucket : ℕ) {old renamed : Wo
       subst (λ y. IsIndexedWithGap (swap_remove hs index 0) (set y bucket 0) bucket) renames
       (IsIndexed-remove x index (length hs - 1) bucket r.bucket is_last (at ∙ one) (r.at ∙ sym is_last))
 
-  cost_left : {new : Work} → ShiftsUpTo (swap_remove hs index 0) words bucket renamed new
-      → ReadsWithin (removal_reads_left hs (length ws) index bucket) old new
+  cost_left : {new : Work} → ShiftReadsWithin (swap_remove hs index 0) words bucket renamed new
+      → ReadsWithin (removal_reads_at hs (length ws) index bucket) old new
   cost_left told =
       let v = vacant-remove x index (length hs - 1) bucket r.bucket is_last (at ∙ one) (r.at ∙ sym is_last) in
       let empty = subst (λ ys. IsOtherEmpty (slots_from (swap_remove hs index 0) (set ys bucket 0)) bucket v.0) renames v.1 in
@@ -57,7 +57,7 @@ returns-clause-cost g c =
     let r = subst (λ xs. RenamesLast xs (g.B.Words.words c.args.buckets.now) c.args.index words c.args.tally.now c.rename_last.new.tally)
     c.as_slice.ensures.value c.rename_last.ensures.renames in
     cost_left c.args.bucket c.requires.indexed c.requires.within c.requires.at r
-    (subst (λ y. ShiftsUpTo y words c.args.bucket c.rename_last.new.tally c.backward_shift.new.tally)
+    (subst (λ y. ShiftReadsWithin y words c.args.bucket c.rename_last.new.tally c.backward_shift.new.tally)
     (c.as_slice-2.ensures.value ∙ c.swap_remove-hash.ensures.items
     ∙ left c.args.hashes.now.items c.args.index c.swap_remove-hash.result c.requires.within) c.backward_shift.ensures.cost)
 

@@ -36,7 +36,7 @@ returns-clause-collected g c =
     let is_made = made_with g.S.Default.is_default c.default.ensures c.in_ok-map.ensures.makes.ok in
     let all = c.in_ok-extend_counted.ensures.extended in (
       all.0.gave,
-      subst (λ it. Drains g.I.Iterator.next_gives it all.0.gave) all.0.is_made all.0.drained,
+      subst (λ it. Drains g.I.Iterator.next_gives it all.0.gave) all.0.from_items all.0.drained,
       collection_of L E g.met.K.Eq.laws g.S.Default.is_default c.args.capacity made c.extend_counted.new.self all.0.gave is_made
           all.0.extends.inserted,
       all.1,

@@ -17,7 +17,7 @@ returns-clause-extended g c =
     let so_far = c.loop-key.invariant.so_far in (
       record {
         iterator = c.into_iter-key-iterator.result;
-        is_made = c.into_iter-key-iterator.ensures.into_iter_gives;
+        from_items = c.into_iter-key-iterator.ensures.into_iter_gives;
         gave = c.loop-key.yielded;
         drained = (c.next.new.self, (c.loop-key.key-iterator, c.loop-key.yielded_by, c.in-None.ensures.steps));
         extends = extends_of g.L.Limit.LIMIT g.K.PartialEq.eq g.met.K.Eq.laws c.args.self.now c.loop-key.self c.loop-key.yielded so_far.inserted;
@@ -43,4 +43,4 @@ returns-in_err-insert_counted-clause-refused g c =
     c.loop-key.invariant.so_far (c.next.new.self, one_more) c.in_err-insert_counted.ensures.inserts.returned.unchanged
     c.in_err-insert_counted.ensures.inserts.returned.why c.in_err-insert_counted.ensures.cost.grew in
     (at_error c.from_residual.result back.why (Unit {0}) _ c.from_residual.ensures
-    (record { iterator = it; is_made = c.into_iter-key-iterator.ensures.into_iter_gives; insertion = refused.0 }, refused.1)).1
+    (record { iterator = it; from_items = c.into_iter-key-iterator.ensures.into_iter_gives; insertion = refused.0 }, refused.1)).1

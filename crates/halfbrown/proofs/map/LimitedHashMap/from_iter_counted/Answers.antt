@@ -8,7 +8,7 @@ returns-clause-collected g c =
     (λ m h. (
       record {
         iterator = c.into_iter-items.result;
-        is_made = c.into_iter-items.ensures.into_iter_gives;
+        from_items = c.into_iter-items.ensures.into_iter_gives;
         hint = c.size_hint-hint.result.0;
         hinted = c.size_hint-hint.ensures.lower;
         gave = h.0;
@@ -25,7 +25,7 @@ returns-clause-refused g c =
     (λ why h. (
       record {
         iterator = c.into_iter-items.result;
-        is_made = c.into_iter-items.ensures.into_iter_gives;
+        from_items = c.into_iter-items.ensures.into_iter_gives;
         hint = c.size_hint-hint.result.0;
         hinted = c.size_hint-hint.ensures.lower;
         refused = h.0;
