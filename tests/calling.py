@@ -1,7 +1,8 @@
-"""What CALLING shows as it stands in the sources: the clauses of its calls, the words that these name, and a list of all calls.
+"""What CALLING shows as it stands in the sources: the clauses of its calls, the words and values that these name, and a list of
+all calls.
 
 A word is a record, a data type or a name for what holds. If only clauses name it, or only one other word, it stands below the
-first of these, and otherwise in the list of words.
+first of these, and otherwise in the list of words. A value is a number, a list or a test, and stands with its comment.
 """
 
 import collections
@@ -10,46 +11,70 @@ import re
 import textwrap
 
 CRATE = pathlib.Path(__file__).resolve().parent.parent / "crates/halfbrown"
+SPECS = [CRATE.parent / f"half_store/specs/{it}.antt" for it in ("Capacity", "Refusal")] + sorted(CRATE.glob("specs/*.antt"))
 # No clause or field of such a name is printed, and no starred clause.
 LEFT_OUT = re.compile(r"(?:(?:requires|ensures) ?)?(?:\*|(?:cost|keeps|runs|same_map|small|valid|values_run)\b)")
 # Such a word is not printed: a line by hand says in short what it says, or no caller has to know it.
 NOT_OPENED = """ArePairClones HashesAlike InsertsAll PutsOrHandsBackWithIndex IsDefaultBuilder CollectIterRefused
     InsertsUntilRefused SameEntry ShiftRemoves State""".split()
-WORD = re.compile(r"^( *)(?:pub record|pub data|abbrev pub) ([A-Z]\w*)(.*)\n((?:\1 +\S.*\n|\1\2 .*\n)*)", re.M)
+DEFINITION = re.compile(
+    r"^((?: *--.*\n)*)( *)(pub record|pub data|abbrev pub|unfoldable pub) (\w+)(.*)\n((?:\2 +\S.*\n|\2\4 .*\n)*)", re.M
+)
 CALL = re.compile(r"^fn ([\w:]+).*\n(?:(?!fn |```).*\n)*", re.M)
-LIST = re.compile(r"(^## (Words|All calls)\n(?:[^`]|`(?!``))*```text\n)([^`]*)", re.M)
+LIST = re.compile(r"(^## (Words|Values|All calls)\n(?:[^`]|`(?!``))*```text\n)([^`]*)", re.M)
 
 
 def wrapped(line, indent="", further="    "):
     return textwrap.fill(line, 120, initial_indent=indent, subsequent_indent=indent + further, break_on_hyphens=False) + "\n"
 
 
-def parameters(it):
-    """The names of a word's parameters, those of the modules that it stands in first."""
-    modules = dict(re.findall(r"^( *)module _ (.*) where$", it.string[: it.start()], re.M))  # The last of each indent.
-    binders = [modules[indent] for indent in sorted(modules) if len(indent) < len(it[1])]
-    return re.findall(r"\(([\w' ]+) : ", "".join([*binders, it[3]]))
+def modules(it):
+    """The modules that a definition stands in, and the parameters of each."""
+    last = {found[1]: found for found in re.finditer(r"^( *)module _ (.*) where$", it.string[: it.start()], re.M)}
+    return [(last[indent].start(), explicit(last[indent][2])) for indent in sorted(last) if len(indent) < len(it[2])]
 
 
-def words():
-    """The words of the specs, and those of the store that say why a call is refused: what each line of them says, by name."""
-    found = {}
-    for path in [CRATE.parent / "half_store/specs/Refusal.antt", *sorted(CRATE.glob("specs/*.antt"))]:
-        for it in WORD.finditer(re.sub(r"^ *--.*\n", "", path.read_text(), flags=re.M)):
-            indent = re.match(" *", it[4])[0]
-            lines = [" ".join(line.split()) for line in re.split(rf"^{indent}(?=\S)", it[4], flags=re.M)[1:]]
-            fields = [re.sub(r"^(?:pub )?(\w+) : ", r"\1: ", line) for line in lines]
-            head = [] if it[0].lstrip().startswith("abbrev") else [" ".join([it[2], *parameters(it)])]
-            found[it[2]] = head + [field for field in fields if not LEFT_OUT.match(field)]
-    return {name: lines for name, lines in found.items() if name not in NOT_OPENED}
+def explicit(binders):
+    return [name for names in re.findall(r"\(([\w' ]+) : ", binders) for name in names.split()]
+
+
+def in_full(line, name, known):
+    """A line of a definition, in which those of the same modules have the parameters that they share with it."""
+    def full(it):
+        shared = [own for own, other in zip(known[name], known[it[0]]) if own == other]
+        text = " ".join([it[0], *(parameter for _, parameters in shared for parameter in parameters)])
+        is_argument = re.search(r"(?:^|[^\w'])(?!then|else|if)[\w']+ $|[)\]] $", line[: it.start()])
+        return f"({text})" if text != it[0] and is_argument else text
+    return re.sub(rf"(?<![\w.'])(?:{'|'.join(known)})(?![\w':])", full, line)
+
+
+def definitions():
+    """The words of the specs, and of the store's on capacity, by name: what each line of them says. The values: their comments."""
+    words, values = {}, {}
+    for path in SPECS:
+        found = {it[4]: it for it in DEFINITION.finditer(path.read_text())}
+        known = {name: modules(it) for name, it in found.items()}
+        for name, (comment, _, kind, _, binders, text) in ((name, it.groups()) for name, it in found.items()):
+            head = " ".join([name, *(parameter for _, parameters in known[name] for parameter in parameters)])
+            text = re.sub(r"^ *--.*\n", "", text, flags=re.M)
+            lines = [" ".join(line.split()) for line in re.split(rf"^{re.match(' *', text)[0]}(?=\S)", text, flags=re.M)[1:]]
+            if name[0].isupper():
+                fields = [in_full(re.sub(r"^(?:pub )?(\w+) : ", r"\1: ", line), name, known) for line in lines]
+                heads = [] if kind.startswith("abbrev") else [" ".join([head, *explicit(binders)])]
+                words[name] = heads + [field for field in fields if not LEFT_OUT.match(field)]
+            elif comment and lines:
+                own = re.match(rf"{name}((?: [\w']+)*) =", lines[0])
+                values[name] = f"{head}{own[1] if own else ''}: " + " ".join(line.strip(" -").replace("`", "") for line in comment.splitlines())
+    return {name: lines for name, lines in words.items() if name not in NOT_OPENED}, values
 
 
 def quoted(call):
     """The signature of a call, and each of its clauses that the page shows."""
     kind, _, name = call.rpartition("::")
-    files = ["entry/methods.rt"] if kind else ["map.rt", "map/*.rt", "drain.rt", "entry/make.rt"]
-    text = "".join(path.read_text() for file in files for path in sorted(CRATE.glob(f"src/{file}")))
-    found = re.search(rf"^    pub fn {name}\b(.*?)^    {{$", text, re.M | re.S)[1]
+    texts = (path.read_text() for path in sorted(CRATE.glob("src/**/*.rt"), key=lambda it: it.with_suffix("").parts))
+    impls = (it for text in texts for it in re.split(r"^(?=impl\b)", text, flags=re.M)[1:])
+    owned = (it for it in impls if re.match(rf"impl\b[^{{]*?> {kind or 'LimitedHashMap'}<", it))
+    found = next(filter(None, (re.search(rf"^    pub fn {name}\b(.*?)^    {{$", it, re.M | re.S) for it in owned)))[1]
     head, *clauses = re.split(r"(?=\b(?:requires|ensures)\b)", " ".join(re.sub("//.*", "", found).split()))
     yield f"fn {call}{head.rstrip(', ')}".replace("( ", "(").replace(", )", ")")
     for clause in clauses:
@@ -61,7 +86,7 @@ class Page:
     """What the page has to show."""
 
     def __init__(self, text):
-        self.words = words()
+        self.words, self.values = definitions()
         self.clauses = {it[1]: [*quoted(it[1])] for it in CALL.finditer(text)}
         found = {name for clauses in self.clauses.values() for name in self.named(clauses[1:])}
         namers = collections.Counter(found)  # The clauses count as one.
@@ -98,7 +123,15 @@ class Page:
 
     def list(self, found):
         """A list of the page, made anew."""
-        return found[1] + "".join(map(self.word, self.listed) if found[2] == "Words" else all_calls())
+        lists = {"Words": map(self.word, self.listed), "Values": self.named_values(found.string), "All calls": all_calls()}
+        return found[1] + "".join(lists[found[2]])
+
+    def named_values(self, text):
+        """The values that the clauses and words of the page name."""
+        shown = text[: text.find("\n## Values")]
+        for name in sorted(self.values):
+            if re.search(rf"(?<![\w.]){name}(?![\w:`])", shown):
+                yield wrapped(self.values[name])
 
 
 def all_calls():
@@ -125,4 +158,4 @@ def claims(text):
     """Of each call and each list of the page, whether it stands there as it is printed."""
     shown, printed = ([*CALL.finditer(it), *LIST.finditer(it)] for it in (text, written(text)))
     yield from ((f"CALLING: {old[0].splitlines()[0]}", old[0] == new[0]) for old, new in zip(shown, printed))
-    yield "CALLING: its lists", [it[2] for it in LIST.finditer(text)] == ["Words", "All calls"]
+    yield "CALLING: its lists", [it[2] for it in LIST.finditer(text)] == ["Words", "Values", "All calls"]

@@ -31,11 +31,11 @@ module _ {K V S L H : Type 0} {e : EqGhosts K} {h : HashGhosts K} {b : HasherGho
   abbrev pub occupied : OccupiedEntry K V S L H e h b l → EntryView K V S
   occupied o = record { map = o.map; index = Some o.index; vacant = None }
 
-  -- of the vacant entry of a key
+  -- the view of the vacant entry of a key
   abbrev pub vacant : VacantEntry K V S L H e h b l → EntryView K V S
   vacant v = record { map = v.map; index = None; vacant = Some (v.key, v.vacancy) }
 
-  -- of a vacant raw entry
+  -- the view of a vacant raw entry
   abbrev pub raw_vacant : RawVacantEntryMut K V S L H e h b l → EntryView K V S
   raw_vacant v = record { map = v.map; index = None; vacant = None }
 
@@ -49,11 +49,11 @@ module _ {K V S L H : Type 0} {e : EqGhosts K} {h : HashGhosts K} {b : HasherGho
   variant_view (Occupied o) = occupied o
   variant_view (Vacant v) = vacant v
 
-  -- of an entry of a key; its reference to the map stands by itself, as what is lent of it does
+  -- the view of an entry of a key; its reference to the map stands by itself, as what is lent of it does
   abbrev pub view : Entry K V S L H e h b l → EntryView K V S
   view entry = record (variant_view entry) { map = map_ref entry }
 
-  -- of a raw entry
+  -- the view of a raw entry
   abbrev pub raw_view : RawEntryMut K V S L H e h b l → EntryView K V S
   raw_view (raw.Occupied o) = occupied o
   raw_view (raw.Vacant v) = raw_vacant v

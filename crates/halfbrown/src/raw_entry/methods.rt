@@ -106,7 +106,7 @@ impl<'a, K: Eq + Hash, V, S: KeyHasher<K>, L: Limit> RawEntryMut<'a, K, V, S, L>
 
     /// Adds the pair if none was found. Its key must not be held then. A pair that was found stays, and the given
     /// one is dropped. Returns the stored key, and the value that is held now, to be written for as long as the map is
-    /// borrowed.
+    /// borrowed. No clause says what the map is afterwards: if a proof needs that, call `or_insert_entry(..).into_mut()`.
     ///
     /// ```
     /// *ages.raw_entry_mut()?.from_key(&3).or_insert(3, 0).1 = 5;

@@ -17,7 +17,8 @@ use std::hash::Hash;
 
 impl<'a, K: Eq + Hash, V, S: KeyHasher<K>, L: Limit> RawVacantEntryMut<'a, K, V, S, L> {
     /// Adds a pair at the end. Its key must not be held. Returns the stored key, and the value, to be written for as
-    /// long as the map is borrowed. In a table the key is hashed once, and one insertion probe is made.
+    /// long as the map is borrowed. In a table the key is hashed once, and one insertion probe is made. No clause says what
+    /// the map is afterwards: if a proof needs that, call `insert_entry(..).into_mut()`.
     ///
     /// ```
     /// *entry.insert(3, 0).1 = 5;
