@@ -24,7 +24,7 @@ returns-in_err-extend_counted-clause-refused g c =
     let given = Gives g.I.Iterator.next_gives in
     let counted = subst (λ it. (insertion : InsertRefused L E (given it) made why after)
     × TallyGrewBy (refused_cost L E H insertion) before c.extend_counted.new.tally)
-    refused.0.is_made (refused.0.insertion, refused.1) in
+    refused.0.from_items (refused.0.insertion, refused.1) in
     (at_error c.from_residual-in_err-extend_counted.result why (Unit {0}) _ c.from_residual-in_err-extend_counted.ensures
     (inr (record { made = made; is_made = is_made; reached = after; insertion = counted.0 }), counted.1)).1
 
