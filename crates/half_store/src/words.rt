@@ -2,7 +2,8 @@
 //!
 //! A word takes four bytes if that is enough for as many pairs as the buckets may hold, and eight elsewhere. Nothing lends
 //! the words: each is read by `word_at`, which counts it.
-ghost use Rattle.std.specs.Prelude.{◌≡◌, ℕ, ◌-◌, ◌^◌, ◌<◌, ◌≤◌, List, [], length, replicate, slice_index, slice_set, IfOk, vec_len, vec_capacity};
+ghost use Rattle.std.specs.Prelude.{◌≡◌, ℕ, ◌-◌, ◌^◌, ◌<◌, ◌≤◌, List, [], length, replicate};
+ghost use Rattle.std.specs.Prelude.{slice_index, slice_set, IfOk, vec_len, vec_capacity};
 ghost use Rattle.half_store.specs.Capacity.{capacity_of, IsBucketCount};
 ghost use Rattle.half_store.specs.Words.{words_of, greatest_word, word_size, AreWordsFor, room_of, greatest_word_in, HasNoWords};
 ghost use Rattle.half_store.specs.Work.{looked_more};

@@ -2,7 +2,8 @@
 //! changes or is filled, so a refused call costs no more in a large store.
 ghost use Rattle.std.specs.Prelude.{◌≡◌, ◌^◌, ◌<◌, ◌≤◌, ℕ, [], IfOk, IfErr, OnOk, true, length};
 ghost use Rattle.half_store.specs.Arrays.{arrays_of, bytes_in, bytes};
-ghost use Rattle.half_store.specs.Store.{IsStoreClone, MakesStore, StoreReserves, StoreShrinks, MakesTable, TableFitsColumns, table_of, vector_of};
+ghost use Rattle.half_store.specs.Store.{IsStoreClone, MakesStore, MakesTable, TableFitsColumns, table_of, vector_of};
+ghost use Rattle.half_store.specs.Store.{StoreReserves, StoreShrinks};
 ghost use Rattle.half_store.specs.Capacity.{capacity_of, least_buckets, least_table_capacity};
 ghost use Rattle.half_store.specs.Refusal.{refusal_of};
 

@@ -86,16 +86,16 @@ pub(super) fn bucket_of<B: Words>(
         (home (length (B.words buckets.now)) (slice_index hashes.now index)) result + 1) tally.old }
 {
     let count = buckets.count();
-    let mut bucket = home(hashes[index], count);
+    let mut bucket = home(count, hashes[index]);
     while buckets.word_at(bucket, tally) != index + 1 {
-        bucket = next(bucket, count);
+        bucket = next(count, bucket);
     }
     bucket
 }
 
 /// The probe distance from one bucket up to another; the first follows the last.
 #[inline(always)]
-fn probe_distance(from: usize, to: usize, count: usize) -> usize
+fn probe_distance(count: usize, from: usize, to: usize) -> usize
     requires count { IsBucketCount count }
     requires from_within { from < count }
     requires to_within { to < count }
@@ -132,18 +132,18 @@ fn backward_shift<B: WordsMut>(buckets: &mut B, hashes: &[u64], removed: usize, 
 {
     let count = buckets.count();
     let mut gap = removed;
-    let mut bucket = next(removed, count);
+    let mut bucket = next(count, removed);
     // the probe distance from the gap up to the bucket
     let mut distance = 1;
     let mut word = buckets.word_at(bucket, tally);
     while word != 0 {
-        let from_home = probe_distance(home(hashes[word - 1], count), bucket, count);
+        let from_home = probe_distance(count, home(count, hashes[word - 1]), bucket);
         // The pair stays where its home bucket is after the gap. Otherwise it moves into the gap, and leaves one.
         let place = if_less(from_home, distance, bucket, gap);
         buckets.set_word(place, word);
         gap = if_less(from_home, distance, gap, bucket);
         distance = if_less(from_home, distance, distance, 0) + 1;
-        bucket = next(bucket, count);
+        bucket = next(count, bucket);
         word = buckets.word_at(bucket, tally);
     }
     buckets.set_word(gap, 0);

@@ -17,7 +17,7 @@ use crate::words::Words;
 
 /// The home bucket of a hash, where each probe for it begins.
 #[inline(always)]
-pub(crate) fn home(hash: u64, count: usize) -> usize
+pub(crate) fn home(count: usize, hash: u64) -> usize
     requires count { IsBucketCount count }
     requires some { 0 < count }
     ensures value { result ≡ home count hash }
@@ -28,7 +28,7 @@ pub(crate) fn home(hash: u64, count: usize) -> usize
 
 /// The bucket after this one; the first follows the last.
 #[inline(always)]
-pub(crate) fn next(bucket: usize, count: usize) -> usize
+pub(crate) fn next(count: usize, bucket: usize) -> usize
     requires count { IsBucketCount count }
     requires within { bucket < count }
     ensures value { result ≡ bucket_after count bucket 1 }
@@ -60,7 +60,7 @@ pub fn probe_for<B: Words, K, F: Fn(&K) -> bool>(
     if count == 0 {
         return Err(0);
     }
-    let mut bucket = home(hash, count);
+    let mut bucket = home(count, hash);
     loop {
         match buckets.word_at(bucket, tally) {
             0 => return Err(bucket),
@@ -71,7 +71,7 @@ pub fn probe_for<B: Words, K, F: Fn(&K) -> bool>(
                 }
             }
         }
-        bucket = next(bucket, count);
+        bucket = next(count, bucket);
     }
 }
 
@@ -86,9 +86,9 @@ pub fn first_empty<B: Words>(buckets: &B, hashes: &[u64], hash: u64, tally: &mut
 {
     let _ = hashes;
     let count = buckets.count();
-    let mut bucket = home(hash, count);
+    let mut bucket = home(count, hash);
     while buckets.word_at(bucket, tally) != 0 {
-        bucket = next(bucket, count);
+        bucket = next(count, bucket);
     }
     bucket
 }
