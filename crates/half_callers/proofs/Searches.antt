@@ -16,16 +16,16 @@ use Rattle.halfbrown.specs.State.{State, WithPairs, state_with}
 use Rattle.test_support.specs.declared.builders.Rule.{Rule}
 use Rattle.test_support.specs.declared.builders.Counting.{Counting}
 use Rattle.test_support.specs.Hashes.{hash_by, shifted}
-use Rattle.half_callers.specs.Tables.{IsTableOf, more_work, twins}
+use Rattle.half_callers.specs.Tables.{HasParts, more_work}
 
 -- where the least and the most are the same
 grew_exactly : (n before after : ℕ) → NumberGrewWithin (exactly n) before after → after ≡ before + n
 grew_exactly n before after grew = omega (arith, grew.at_least, grew.at_most)
 
 -- the work by a cost that is no range
-pub exact : (asked compared looked : ℕ) (before after : Work)
+pub exact : (asked compared looked : ℕ) {before after : Work}
     → TallyGrewBy (record { asked = asked; compared = exactly compared; looked = exactly looked }) before after → after ≡ more_work asked compared looked before
-exact asked compared looked before after grew i =
+exact asked compared looked {before = before} {after = after} grew i =
     record {
       asked = grew.asked i;
       compared = grew_exactly compared before.compared after.compared grew.compared i;
@@ -40,25 +40,25 @@ number_hash rule k = hash_by rule (shifted 0 (le_bytes 8 k))
 abbrev pub builder_hash : Counting → ℕ → ℕ
 builder_hash builder k = number_hash builder.rule k
 
-module _ (rule : Rule) (keys : List ℕ) (capacity : ℕ) (m : State ℕ ℕ Counting) (table : IsTableOf rule keys capacity m) where
+module _ {rule : Rule} {held : List (ℕ × ℕ)} {capacity : ℕ} {m : State ℕ ℕ Counting}
+    (table : HasParts rule (false, held, capacity) m) where
   -- the table of these parts
   abbrev known : State ℕ ℕ Counting
-  known = state_with m false (twins keys) capacity m.builder
+  known = state_with m false held capacity m.builder
 
-  known_is : m ≡ state_with m false (twins keys) capacity m.builder
-  known_is i = state_with m (table.form i) (table.pairs i) (table.capacity i) m.builder
+  known_is : m ≡ state_with m false held capacity m.builder
+  known_is i = state_with m (table.parts i).0 (table.parts i).1 (table.parts i).2 m.builder
 
   -- after a removal
-  pub table_without : (k : ℕ) (left : List ℕ) → swap_out eqb (twins keys) k ≡ twins left → (new : State ℕ ℕ Counting)
-      → WithPairs m (swap_out eqb m.pairs k) new → IsTableOf rule left capacity new
-  table_without k left rest new after = record {
-    form = after.form ∙ table.form;
-    pairs = after.pairs ∙ ap (λ ps. swap_out eqb ps k) table.pairs ∙ rest;
-    capacity = after.capacity ∙ table.capacity;
+  pub without : (k : ℕ) {new : State ℕ ℕ Counting} → WithPairs m (swap_out eqb m.pairs k) new
+      → HasParts rule (false, swap_out eqb held k, capacity) new
+  without k after = record {
+    parts = (λ i. (after.form i, after.pairs i, after.capacity i))
+        ∙ ap (λ parts. (parts.0, swap_out eqb parts.1 k, parts.2)) table.parts;
     builder = ap (λ b. b.rule) after.builder ∙ table.builder;
   }
 
-  module _ (k : ℕ) (before after : Work) where
+  module _ (k : ℕ) {before after : Work} where
     -- a search for a key
     pub sought : IsKeySearchCost eqb builder_hash m k before after → TallyGrewBy (key_search_cost eqb (λ b. number_hash rule) known k) before after
     sought cost = subst (λ c. TallyGrewBy c before after) (λ i. key_search_cost eqb (λ b. number_hash (table.builder i)) (known_is i) k) cost.grew
@@ -73,18 +73,19 @@ module _ (rule : Rule) (keys : List ℕ) (capacity : ℕ) (m : State ℕ ℕ Cou
 
   -- a search by a match, under a hash that was handed in, where a key of the hash that the match accepts would pass a test that none passes
   pub unmatched : (wanted : ℕ) (returns : ℕ → Bool → Type 0) (test : ℕ → Bool)
-      → ((q : ℕ) → number_hash rule q ≡ wanted → returns q true → test q ≡ true) → list_any test (keys_of (twins keys)) ≡ false
-      → (found : Option (ℕ × ℕ)) (before after : Work) → FindsMatch returns builder_hash wanted m found
+      → ((q : ℕ) → number_hash rule q ≡ wanted → returns q true → test q ≡ true) → list_any test (keys_of held) ≡ false
+      → {found : Option (ℕ × ℕ)} {before after : Work} → FindsMatch returns builder_hash wanted m found
       → IsMatchCost builder_hash wanted m found before after
-      → TallyGrewBy (search_cost (number_hash rule) wanted None 0 false capacity (twins keys)) before after
-  unmatched wanted returns test passes none None before after finds cost =
+      → TallyGrewBy (search_cost (number_hash rule) wanted None 0 false capacity held) before after
+  unmatched wanted returns test passes none {found = None} {before = before} {after = after} finds cost =
       subst (λ c. TallyGrewBy c before after)
-      (λ i. search_cost (number_hash (table.builder i)) wanted (none_of cost.index cost.is_found i) 0 (table.form i) (table.capacity i) (table.pairs i))
+      (λ i. search_cost (number_hash (table.builder i)) wanted (none_of cost.index cost.is_found i) 0
+      (known_is i).is_vec (known_is i).capacity (known_is i).pairs)
       cost.costs.grew
-  unmatched wanted returns test passes none (Some pair) before after (index, at, is) cost =
+  unmatched wanted returns test passes none {found = Some pair} (index, at, is) cost =
       let key : slice_get (keys_of m.pairs) index ≡ Some pair.0 =
       slice_get-map (λ p. p.0) m.pairs index ∙ ap (option_map (λ p. p.0)) at in
-      let hashed = ap (λ r. number_hash r pair.0) (sym table.builder) ∙ is.hashed table.form pair.0 key in
+      let hashed = ap (λ r. number_hash r pair.0) (sym table.builder) ∙ is.hashed (ap (λ s. s.is_vec) known_is) pair.0 key in
       let passed = passes pair.0 hashed (is.accepted pair.0 key) in
       absurd (true≢false (sym (any_passes_from_place test (keys_of m.pairs) index pair.0 key passed)
-      ∙ ap (λ ps. list_any test (keys_of ps)) table.pairs ∙ none))
+      ∙ ap (λ s. list_any test (keys_of s.pairs)) known_is ∙ none))

@@ -6,4 +6,4 @@ use Rattle.half_callers.proofs.worked.an_insertion_that_grows.Goals as goal
 
 pub returns : goal.returns
 unfolding le_bytes probe_distance bucket_after load loaded_within loaded_run reach least_buckets
-returns c = exact 1 0 6 _ _ (inserted _ _ _ c.args.map.now c.requires 15 _ _ c.in_ok-insert_counted.ensures.cost)
+returns c = exact 1 0 6 (inserted c.requires 15 c.in_ok-insert_counted.ensures.cost)

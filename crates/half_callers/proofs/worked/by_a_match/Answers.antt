@@ -10,13 +10,13 @@ pub returns-clause-of_0 : goal.returns-clause-of_0
 unfolding le_bytes probe_distance bucket_after load loaded_within loaded_run reach
 returns-clause-of_0 c =
     let seen = subst (IsTableOf Rule.Zero (1 ∷ 2 ∷ 3 ∷ []) 3) (sym c.raw_entry.ensures) c.requires in
-    exact 0 3 4 _ _ (unmatched _ _ _ c.raw_entry.result.map.now seen 0 _ (λ q. q == 4)
+    exact 0 3 4 (unmatched seen 0 _ (λ q. q == 4)
     (λ q hashed accepted. let said = accepted.says.met in let shown = accepted.shows in search rules) refl
-    _ _ _ c.from_hash_counted.ensures.found c.from_hash_counted.ensures.cost)
+    c.from_hash_counted.ensures.found c.from_hash_counted.ensures.cost)
 
 pub returns-clause-of_5 : goal.returns-clause-of_5
 unfolding le_bytes probe_distance bucket_after load loaded_within loaded_run reach
 returns-clause-of_5 c =
     let seen = subst (IsTableOf Rule.Zero (1 ∷ 2 ∷ 3 ∷ []) 3) (sym c.raw_entry-2.ensures) c.requires in
-    exact 0 0 3 _ _ (unmatched _ _ _ c.raw_entry-2.result.map.now seen 5 _ (λ q. number_hash Rule.Zero q == 5)
-    (λ q hashed accepted. ap (λ n. n == 5) hashed) refl _ _ _ c.from_hash_counted-2.ensures.found c.from_hash_counted-2.ensures.cost)
+    exact 0 0 3 (unmatched seen 5 _ (λ q. number_hash Rule.Zero q == 5)
+    (λ q hashed accepted. ap (λ n. n == 5) hashed) refl c.from_hash_counted-2.ensures.found c.from_hash_counted-2.ensures.cost)
