@@ -45,7 +45,7 @@ halfbrown/src/map/capacity shrink_to_fit..{ let _ = self.store.shrink_to_fit(L::
 halfbrown/src/entry/occupied into_key(..{ self.into_key_value().0 }
 halfbrown/src/entry/occupied into_key_value..{ let map = self.map; map.pair_at_mut(self.index) }
 halfbrown/src/entry drop..{ let VacantEntry { map: _, key, vacancy: _, } = self; drop(key); }
-halfbrown/src/drain drop..{ let Drain { map, pairs } = self; map.put_back(pairs); }
+halfbrown/src/drain drop..{ let Drain { map, pairs } = self; map.store = pairs.into_store(); }
 halfbrown/src/iter/column drop..{ let Column { items, other: _ } = self; drop(items); }
 halfbrown/src/map drop..{ let LimitedHashMap { store, builder, limit: _, } = self; drop(store); drop(builder); }
 """

@@ -43,7 +43,7 @@ impl<'a, K: Eq + Hash + Drop, V: Drop, S: KeyHasher<K>, L: Limit, P: IntoStore<K
         ensures valid { IsValid L.LIMIT K.eq self.exit.0.now }
     {
         let Drain { map, pairs } = self;
-        map.put_back(pairs);
+        map.store = pairs.into_store();
     }
 }
 
@@ -68,7 +68,7 @@ impl<K: Eq + Hash, V, S: KeyHasher<K>, L: Limit> LimitedHashMap<K, V, S, L> {
         ensures after { WithPairs self.old [] (map_once_dropped result) }
         ensures runs { StepsThroughPairs self.entry.ghost_name result }
     {
-        let pairs = self.take_store();
+        let pairs = self.store.drain();
         Drain { map: self, pairs }
     }
 }

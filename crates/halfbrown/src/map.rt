@@ -64,7 +64,7 @@ pub struct LimitedHashMap<
     S: KeyHasher<K> = DefaultHashBuilder,
     L: Limit = AtMost<32>,
 > {
-    store: Store<K, V>,
+    pub(crate) store: Store<K, V>,
     builder: S,
     limit: PhantomData<L>,
 }

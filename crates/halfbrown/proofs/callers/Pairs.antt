@@ -117,7 +117,7 @@ module _ {K V : Type 0} (eq : K → K → Bool) (laws : IsEquivalence eq) where
 
   -- ---- a removal
 
-  passing : (test : K → Bool) (ps : List (K × V)) (i : ℕ) → KeyFoundAt test ps i → (p : K × V) × (p ≡ get_or ps i p) × (test p.0 ≡ true)
+  pub passing : (test : K → Bool) (ps : List (K × V)) (i : ℕ) → KeyFoundAt test ps i → (p : K × V) × (p ≡ get_or ps i p) × (test p.0 ≡ true)
   passing test [] i at = absurd (omega arith)
   passing test (q ∷ ps) i at = (
     get_or (q ∷ ps) i q,
@@ -147,13 +147,10 @@ module _ {K V : Type 0} (eq : K → K → Bool) (laws : IsEquivalence eq) where
 
     -- or none passes
     pub has_all : KeyMissing test ps → HasRemovedBy eq test ps ps
-    has_all absent = record {
-      not_held = absent.held;
-      no_value = absent.value;
-      equals = λ q passes. ap (λ t. lookup t ps) (λ i x. sym (query q x passes) i) ∙ absent.value;
-      others = λ q fails. refl;
-      len = rw absent.held refl;
-    }
+    has_all absent =
+        let equals : (q : K) → test q ≡ true → value_of eq ps q ≡ None =
+        λ q passes. ap (λ t. lookup t ps) (λ i x. sym (query q x passes) i) ∙ absent.value in
+        grind (arith, common_steps, absent, equals)
 
     removed_by : (index : Option ℕ) → index ≡ index_of test (keys_of ps) → HasRemovedBy eq test ps (swap_out_by test ps)
     removed_by (Some i) is =

@@ -1,5 +1,5 @@
 -- Pairs under what is read of their keys, as texts under their bytes: a look-up, a put, a set value and a removal there.
-use Rattle.halfbrown.proofs.Common.{◌≡◌, ℕ, ◌+◌, ◌<◌, ◌≤◌, Bool, true, false, length, arith, cond, List, [], ◌∷◌, ◌++◌, take, get_or, Option, Some, unwrap_or, refl}
+use Rattle.halfbrown.proofs.Common.{◌≡◌, ℕ, ◌+◌, ◌<◌, ◌≤◌, Bool, true, false, length, arith, cond, List, [], ◌∷◌, take, get_or, Option, Some, unwrap_or, refl}
 use Rattle.halfbrown.proofs.Common.{ap, ◌∙◌, sym, subst, map, common_steps, map-append, take_more, IsEquivalence, AllByRecursion, keys_of, values_of, lookup, option_map}
 use Rattle.halfbrown.proofs.Common.{index_of, value_of, put, set_value, swap_out_by, SwapRemoves, State, HasPut}
 use Rattle.std.proofs.Common.{String, sum}
@@ -68,11 +68,8 @@ module _ {K B : Type 0} (read : K → B) {same : B → B → Bool} (laws : IsEqu
       → v ≡ unwrap_or (lookup (λ x. same (read k) (read x)) old.pairs) 0 + 1
       → CountsEach same (map of (take (i + 1) xs)) (keyed_by read new.pairs)
   counted_read_step of xs i d {old} {new} {k} {v} before puts within item more =
-      let counted = counted_more laws (map of (take i xs)) before (has_put_read puts)
-      (more ∙ ap (λ o. unwrap_or o 0 + 1) (sym (lookup-keyed_by read (same (read k)) old.pairs))) in
-      subst (λ ys. CountsEach same ys (keyed_by read new.pairs))
-      (ap (λ y. map of (take i xs) ++ y ∷ []) item
-      ∙ sym (ap (map of) (take_more xs i d within) ∙ map-append of (take i xs) (get_or xs i d ∷ []))) counted
+      let counted = counted_more laws (map of (take i xs)) before (has_put_read puts) in
+      grind (arith, common_steps, counted, lookup-keyed_by read (same (read k)) old.pairs, map, map-append, take_more xs i d within)
 
   -- the step of one that sums by what is read of keys: `of` reads of an item what its key has, and the number
   pub summed_read_step : {A S : Type 0} {limit : ℕ} (of : A → B × ℕ) (xs : List A) (i : ℕ) (d : A) {old new : State K ℕ S} {k : K} {v : ℕ}
@@ -81,11 +78,8 @@ module _ {K B : Type 0} (read : K → B) {same : B → B → Bool} (laws : IsEqu
       → v ≡ unwrap_or (lookup (λ x. same (read k) (read x)) old.pairs) 0 + (of (get_or xs i d)).1
       → SumsEach same (map of (take (i + 1) xs)) (keyed_by read new.pairs)
   summed_read_step of xs i d {old} {new} {k} {v} before puts within item more =
-      let summed = summed_more laws (map of (take i xs)) (of (get_or xs i d)).1 before (has_put_read puts)
-      (more ∙ ap (λ o. unwrap_or o 0 + (of (get_or xs i d)).1) (sym (lookup-keyed_by read (same (read k)) old.pairs))) in
-      subst (λ ys. SumsEach same ys (keyed_by read new.pairs))
-      (ap (λ y. map of (take i xs) ++ (y, (of (get_or xs i d)).1) ∷ []) item
-      ∙ sym (ap (map of) (take_more xs i d within) ∙ map-append of (take i xs) (get_or xs i d ∷ []))) summed
+      let summed = summed_more laws (map of (take i xs)) (of (get_or xs i d)).1 before (has_put_read puts) in
+      grind (arith, common_steps, lookup-keyed_by read (same (read k)) old.pairs, map, map-append, summed, take_more xs i d within)
 
   -- no count is more than there are items
   pub count_read_fits : {A : Type 0} (of : A → B) (xs : List A) (ps : List (K × ℕ)) → CountsEach same (map of xs) (keyed_by read ps)

@@ -1,24 +1,23 @@
 //! The calls of the store, as calls of the map: what they need and do is said of the map.
 //!
 //! A clause `writes_back` says what the map is once the borrow that the call returns has ended.
-ghost use Rattle.std.specs.Prelude.{◌≡◌, ◌^◌, ◌<◌, ◌≤◌, false, true, Some, [], ◌∷◌, ◌++◌, IfOk, IfErr, IfSome, OnErr, length, slice_get};
+ghost use Rattle.std.specs.Prelude.{◌≡◌, ◌<◌, ◌≤◌, false, true, Some, [], ◌∷◌, ◌++◌, IfOk, IfErr, IfSome, OnErr, length, slice_get};
 ghost use Rattle.std.specs.Borrow.{sem, Bor};
 ghost use Rattle.std.specs.Map.{keys_of, values_of};
 ghost use Rattle.std.specs.Option.{option_map};
 ghost use Rattle.std.specs.Result.{result_err};
-ghost use Rattle.half_store.specs.Capacity.{IsFormCapacity};
 ghost use Rattle.half_store.specs.PairLists.{set_key_at, set_value_at, swap_remove_at};
 ghost use Rattle.half_store.specs.Work.{looked_more};
 ghost use Rattle.half_store.specs.ValueReplacement.{index_after_replacing, ReplacesValue};
 ghost use Rattle.halfbrown.specs.Costs.{miss_reads};
 ghost use Rattle.halfbrown.specs.Pairs.{holds};
 ghost use Rattle.halfbrown.specs.Insertion.{pushed};
-ghost use Rattle.halfbrown.specs.State.{IsValid, WithPairs, IsPlacedIn, IsVacancyIn, map_with_pairs, state_in};
+ghost use Rattle.halfbrown.specs.State.{IsValid, WithPairs, IsPlacedIn, IsVacancyIn, map_with_pairs};
 ghost use Rattle.halfbrown.specs.Updates.{HasKeyReplaced, ShiftRemovesAt};
 
 use super::LimitedHashMap;
 use crate::{KeyHasher, Limit};
-use half_store::{Columns, Drained, Found, IntoStore, Tally, Vacancy};
+use half_store::{Columns, Found, Tally, Vacancy};
 use std::hash::Hash;
 use std::mem::replace;
 
@@ -169,30 +168,5 @@ impl<K: Eq + Hash, V, S: KeyHasher<K>, L: Limit> LimitedHashMap<K, V, S, L> {
         ensures valid { IsValid L.LIMIT K.eq self.new }
     {
         self.store.replace_with(found, f)
-    }
-
-    /// Takes the store out, with all pairs. An empty vector without memory is left, and the builder.
-    #[inline(always)]
-    pub(crate) fn take_store(&mut self) -> Drained<K, V>
-        ensures after { WithPairs self.old self.old.pairs
-            (state_in result self.new.builder) }
-        ensures small { length result.pairs < 2 ^ 63 }
-        ensures allowed { IsFormCapacity L.LIMIT result.is_vec result.capacity }
-    {
-        self.store.drain()
-    }
-
-    /// Puts it back, with no pair. Those that are left in it are dropped.
-    #[inline(always)]
-    pub(crate) fn put_back<P: IntoStore<K, V>>(&mut self, drained: P)
-    where
-        K: Drop,
-        V: Drop,
-        requires { IsFormCapacity L.LIMIT (P.store drained).is_vec (P.store drained).capacity }
-        ensures after { WithPairs (state_in (P.store drained) self.old.builder)
-            [] self.new }
-        ensures valid { IsValid L.LIMIT K.eq self.new }
-    {
-        self.store = drained.into_store();
     }
 }

@@ -1,8 +1,8 @@
 //! What an insertion does before it writes: the switch, the search, and capacity for one pair more.
-ghost use Rattle.std.specs.Prelude.{◌≡◌, ◌<◌, false, length, OnOk, IfOk, is_ok, if◌then◌else◌};
-ghost use Rattle.half_store.specs.Work.{looked_more, asked_more};
+ghost use Rattle.std.specs.Prelude.{◌≡◌, ◌<◌, false, length, OnOk, IfOk, is_ok};
+ghost use Rattle.half_store.specs.Work.{looked_more};
 ghost use Rattle.halfbrown.specs.CostRanges.{TallyGrewBy};
-ghost use Rattle.halfbrown.specs.Costs.{switch_asked, new_key_cost, IsInsertCost};
+ghost use Rattle.halfbrown.specs.Costs.{new_key_cost, IsInsertCost};
 ghost use Rattle.halfbrown.specs.Growth.{is_full, capacity_for_growth, capacity_for_insert, capacity_for_new_key};
 ghost use Rattle.halfbrown.specs.Pairs.{holds};
 ghost use Rattle.halfbrown.specs.Insertion.{IsPreparedFor, MayInsertAt, PreparesOrRefuses, growth_probe_reads};
@@ -55,22 +55,9 @@ impl<K: Eq + Hash, V, S: KeyHasher<K>, L: Limit> LimitedHashMap<K, V, S, L> {
         Ok(self.vacancy_for(hash, tally))
     }
 
-    /// Switches a full vector and makes capacity for one pair more, whatever its key. Nothing is searched for.
+    /// Makes the capacity enough for one pair more.
     #[inline(always)]
-    pub(crate) fn switch_and_reserve_one(&mut self, tally: &mut Tally) -> Result<(), Refusal>
-        ensures prepares { PreparesOrRefuses L.LIMIT K.eq self.old
-            (capacity_for_new_key L.LIMIT self.old) result self.new }
-        ensures capacity { OnOk result (length self.new.pairs < self.new.capacity) }
-        ensures work { tally.new ≡ (if is_ok result
-            then asked_more (switch_asked L.LIMIT self.old) tally.old else tally.old) }
-    {
-        self.switch_if_full(tally)?;
-        self.reserve_one()
-    }
-
-    // Makes the capacity enough for one pair more.
-    #[inline(always)]
-    fn reserve_one(&mut self) -> Result<(), Refusal>
+    pub(crate) fn reserve_one(&mut self) -> Result<(), Refusal>
         requires not_full { is_full L.LIMIT self.old ≡ false }
         ensures prepares { PreparesOrRefuses L.LIMIT K.eq self.old
             (capacity_for_growth self.old) result self.new }

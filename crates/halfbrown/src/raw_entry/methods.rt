@@ -1,5 +1,5 @@
 //! The calls of a raw entry.
-ghost use Rattle.std.specs.Prelude.{◌≡◌, false, Some, IfSome, unwrap_or};
+ghost use Rattle.std.specs.Prelude.{◌≡◌, false, Some, unwrap_or};
 ghost use Rattle.std.specs.Borrow.{Bor, MutBor};
 ghost use Rattle.std.specs.Option.{UnwrapsOrElse};
 ghost use Rattle.halfbrown.specs.Entry.{occupied, raw_view};
@@ -177,35 +177,11 @@ impl<'a, K: Eq + Hash, V, S: KeyHasher<K>, L: Limit> RawEntryMut<'a, K, V, S, L>
         ensures cost { tally.new
             ≡ work_after_putting S.hash (raw_view self.entry) result.0.now tally.old }
     {
-        self.or_insert_entry_with(default, tally).into_key_value()
-    }
-
-    // The entry whose pair `or_insert_with` lends.
-    #[inline]
-    fn or_insert_entry_with<F: FnOnce() -> (K, V)>(
-        self,
-        default: F,
-        tally: &mut Tally,
-    ) -> OccupiedEntry<'a, K, V, S, L>
-        requires callable { is_occupied (raw_view self) ≡ false → F.pre default }
-        requires absent { is_occupied (raw_view self) ≡ false → (pair : K × V) → F.post default pair
-            → holds K.eq (map_of (raw_view self)).pairs pair.0 ≡ false }
-        ensures puts { IfSome (entry_pair (occupied result))
-            (λ pair. PutsEntry L.LIMIT K.eq (raw_view self.entry) pair.0 pair.1 (occupied result)) }
-        ensures pair { IfSome (entry_pair (occupied result))
-            (UnwrapsOrElse (entry_pair (raw_view self.entry)) (F.post default)) }
-        ensures cost { IfSome (entry_pair (occupied result))
-            (λ pair. tally.new ≡ work_after_putting S.hash (raw_view self.entry) pair.0 tally.old) }
-    {
         match self {
-            RawEntryMut::Occupied(entry) => {
-                // `len` tells the prover `IsValid` of the map, and the `return` keeps the proofs of the two arms apart.
-                prove!(entry.index < entry.map.len());
-                return entry;
-            }
+            RawEntryMut::Occupied(entry) => entry.into_key_value(),
             RawEntryMut::Vacant(entry) => {
                 let (key, value) = default();
-                entry.insert_entry_counted(key, value, tally)
+                entry.insert_counted(key, value, tally)
             }
         }
     }

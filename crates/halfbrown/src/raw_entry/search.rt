@@ -64,10 +64,9 @@ impl<K: Eq + Hash, V, S: KeyHasher<K>, L: Limit> LimitedHashMap<K, V, S, L> {
         ensures cost { tally.new ≡ (if is_ok result
             then asked_more (switch_asked L.LIMIT self.old) tally.old else tally.old) }
     {
-        match self.switch_and_reserve_one(tally) {
-            Ok(()) => Ok(RawEntryBuilderMut::Prepared(Prepared { map: self })),
-            Err(why) => Err(why),
-        }
+        self.switch_if_full(tally)?;
+        self.reserve_one()?;
+        Ok(RawEntryBuilderMut::Prepared(Prepared { map: self }))
     }
 }
 

@@ -197,15 +197,8 @@ module _ {K V : Type 0} where
       → IsKeptAt is_vec ps i k v (pairs_if_kept is_vec ps i k v) (index_after_replacing is_vec ps i)
   kept_at true ps i k u v at within =
       let front = swap_remove_at ps i in
-      let all = front ++ (k, v) ∷ [] in
       let end : length ps - 1 ≡ length front = omega (arith, length-swap_remove_at ps i (omega (arith, within))) in
-      record {
-        within = omega (arith, end, length-append front ((k, v) ∷ []));
-        pair = ap (slice_get all) end ∙ pair-last front (k, v);
-        value = ap (slice_get (values_of all)) end ∙ value-last front k v;
-        writes = λ w. ap (λ j. set_value_at all j w) end ∙ set_value_at-last front k v w;
-        left = ap (swap_remove_at all) end ∙ swap_remove_at-last front (k, v);
-      }
+      grind (arith, common_steps, end, length-append, pair-last front, set_value_at-last front, swap_remove_at-last front, value-last front)
   kept_at false ps i k u v at within = record {
     within = omega (arith, within, length-set_value_at ps i v);
     pair = pair-set_value_at ps i k u v at;

@@ -197,10 +197,4 @@ at_error r e P Q told holds = grind (arith, common_steps)
 -- a map made with a builder is one made with a builder of its kind
 pub made_with : {K V S : Type 0} (is_builder : S → Type 0) {b : S} {limit needed : ℕ} {m : State K V S} → is_builder b
     → IsEmptyFor (λ it. it ≡ b) limit needed m → IsEmptyFor is_builder limit needed m
-made_with is_builder holds told = record {
-  form = told.form;
-  pairs = told.pairs;
-  capacity = told.capacity;
-  builder = subst is_builder (sym told.builder) holds;
-  grantable = told.grantable;
-}
+made_with is_builder holds told = grind (arith, common_steps)

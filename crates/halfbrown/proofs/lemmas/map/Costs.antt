@@ -1,5 +1,5 @@
 -- What was spent at one time and at another is spent in all: what a search for a key spent, and what a granted insertion.
-use Rattle.halfbrown.proofs.Common.{◌≡◌, ℕ, ◌+◌, ◌<◌, Bool, true, false, length, arith, ap, ◌∙◌, sym, subst, IfSome, ◌&&◌, common_steps, keys_of, index_of}
+use Rattle.halfbrown.proofs.Common.{◌≡◌, ℕ, ◌+◌, ◌<◌, Bool, true, false, length, arith, ap, sym, subst, IfSome, ◌&&◌, common_steps, keys_of, index_of}
 use Rattle.halfbrown.proofs.Common.{Work, TallyGrewBy, add_costs, IsSearchCost, is_full, Prepares, holds, State}
 use Rattle.std.proofs.Common.{◌==◌, zero-add, add-zero, add_assoc}
 use Rattle.std.proofs.Common.{if◌then◌else◌}
@@ -45,9 +45,7 @@ module _ {K V S : Type 0} (limit : ℕ) (eq : K → K → Bool) (hash : S → K 
       → IfSome (index_of (eq k) (keys_of old.pairs)) (λ index. after.looked ≡ before.looked + hit_reads old index)
   hit-read same table =
       let is : middle ≡ old = same (ap (λ v. v && (length old.pairs == limit)) table) in
-      let read = search.hit (ap (λ (m : State K V S). m.is_vec) is ∙ table) in
-      subst (λ n. IfSome (index_of (eq k) (keys_of old.pairs)) (λ index. after.looked ≡ n + hit_reads old index)) (ap (λ (w : Work). w.looked) spent)
-      (subst (λ (m : State K V S). IfSome (index_of (eq k) (keys_of m.pairs)) (λ index. after.looked ≡ between.looked + hit_reads m index)) is read)
+      grind (arith, common_steps, is, search.hit)
 
   pub held_costs : (is_full limit old ≡ false → middle ≡ old) → holds eq old.pairs k ≡ true → IsInsertCost limit eq hash old k true before after
   held_costs same held = grind (arith, common_steps, hit-read, found_where_held (eq k) old.pairs)

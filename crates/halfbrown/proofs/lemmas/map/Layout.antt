@@ -12,7 +12,7 @@ use Rattle.half_store.specs.Columns.{no_pairs}
 use Rattle.half_store.specs.Store.{SameFormAndCapacity, store_pushed, store_with_pairs, vector_of}
 use Rattle.halfbrown.proofs.lemmas.pairs.Changes.{keys_of-set_key_at, map-set_alike, IsDistinct-set, map-swap_remove_at, length-swap_remove_at}
 use Rattle.halfbrown.proofs.lemmas.pairs.Changes.{IsDistinct-swap_remove_at}
-use Rattle.halfbrown.proofs.lemmas.pairs.Indices.{none_of_index, any_of_none, absent_of_unheld, index_of_pair}
+use Rattle.halfbrown.proofs.lemmas.pairs.Indices.{none_of_index, absent_of_unheld, index_of_pair}
 use Rattle.std.specs.Map.Calls.{RetainsPairs}
 use Rattle.halfbrown.specs.Making.{ArePairClones}
 use Rattle.std.specs.Result.{result_err}
@@ -46,7 +46,7 @@ module _ {K V : Type 0} where
     pub kept_pushed : IsEquivalence eq → (s : StoreState K V) (k : K) (v : V) (vacancy : Vacancy) → IsMapInvariant limit eq hash s
         → KeyMissing (eq k) s.pairs → length s.pairs < s.capacity
         → (s.is_vec ≡ false → vacancy.hash ≡ hash k) → IsMapInvariant limit eq hash (store_pushed s k v vacancy)
-    kept_pushed laws s k v vacancy kept absent room own = grind (arith, common_steps, IsDistinct-push, any_of_none, kept_as, length-append, map, map-append, none_of_index)
+    kept_pushed laws s k v vacancy kept absent room own = grind (arith, common_steps, IsDistinct-push, kept_as, length-append, map, map-append, none_of_index)
 
     -- a pair has another key, equal to its own and of the same hash
     pub kept_key : IsEquivalence eq → (s : StoreState K V) (i : ℕ) (old new : K) → IsMapInvariant limit eq hash s

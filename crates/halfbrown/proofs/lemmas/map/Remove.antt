@@ -1,8 +1,8 @@
 -- Removals: what the map is without the pair that was found.
 use Rattle.halfbrown.specs.Pairs.{IsQuery}
-use Rattle.halfbrown.proofs.Common.{◌≡◌, ℕ, ◌≤◌, Bool, true, length, arith, ◌++◌, slice_get, Option, Some, refl, ◌∙◌, None, sym, subst, map, ◌-◌, common_steps}
+use Rattle.halfbrown.proofs.Common.{◌≡◌, ℕ, ◌≤◌, Bool, true, length, arith, ◌++◌, slice_get, Option, Some, ◌∙◌, None, sym, map, ◌-◌, common_steps}
 use Rattle.halfbrown.proofs.Common.{length-keys_of, slice_get_within, IsEquivalence, lookup, lookup_entry, option_map, swap_remove_at, StoreState}
-use Rattle.halfbrown.proofs.Common.{state_in, IsMapInvariant, KeyFoundAt, KeyMissing, swap_out_by, SwapRemoves, State, WithPairs, IsValid, HasRemovedBy}
+use Rattle.halfbrown.proofs.Common.{state_in, IsMapInvariant, KeyFoundAt, KeyMissing, swap_out_by, SwapRemoves, State, WithPairs, IsValid}
 use Rattle.std.proofs.Common.{option_to_list}
 use Rattle.std.proofs.lemmas.List.{append-nil}
 use Rattle.std.proofs.lemmas.Option.{slice_get_past}
@@ -55,19 +55,11 @@ module _ {K V S : Type 0} (limit : ℕ) (eq : K → K → Bool) (old : State K V
       → WithPairs old (swap_remove_at old.pairs index) new → SwapRemovesAt limit eq old index (Some pair) new
   removed_at laws pair new before now at after =
       let found = index_of_pair eq laws old.pairs index pair before.distinct at in
-      record {
-        returned = sym at;
-        after = after;
-        removed = subst (HasRemovedBy eq (eq pair.0) old.pairs) (found.take_is ∙ sym after.pairs)
-            (has_removed_by eq laws (eq pair.0) (λ k other alike. laws.congr pair.0 k other alike) old.pairs before.distinct);
-        unchanged = tt;
-        valid = now;
-      }
+      grind (arith, common_steps, found.take_is, has_removed_by eq laws (eq pair.0) (laws.congr pair.0) old.pairs before.distinct)
 
   -- there is none
   pub none_removed_at : IsValid limit eq old → length old.pairs ≤ index → SwapRemovesAt limit eq old index None old
-  none_removed_at before past =
-      record { returned = sym (slice_get_past old.pairs index past); after = tt; removed = tt; unchanged = refl; valid = before }
+  none_removed_at before past = grind (arith, common_steps, slice_get_past)
 
 module _ {K V S : Type 0} (limit : ℕ) (eq : K → K → Bool) (old new : State K V S) where
   -- the last pair is taken out, and the others stay as they are
@@ -88,21 +80,14 @@ module _ {K V S : Type 0} (limit : ℕ) (eq : K → K → Bool) (laws : IsEquiva
     pub shift_removed : ShiftRemovesAt limit eq (state_in old builder) index (Some pair) (state_in new builder)
     shift_removed =
         let found = index_of_pair eq laws old.pairs index pair kept.distinct told.removed in
-        record {
-          returned = sym told.removed;
-          after = record { pairs = told.pairs; form = told.form.form; capacity = told.form.capacity; builder = refl };
-          removed = subst (HasRemovedBy eq (eq pair.0) old.pairs) (sym told.pairs)
-              (has_left eq laws (eq pair.0) (laws.congr pair.0) old.pairs kept.distinct index found (remove old.pairs index)
-              (λ p. IsPermutation-remove old.pairs index p found.within));
-          unchanged = tt;
-          valid = state_of eq hash limit new builder kept_shifted;
-        }
+        let left = has_left eq laws (eq pair.0) (laws.congr pair.0) old.pairs kept.distinct index found (remove old.pairs index)
+        (λ p. IsPermutation-remove old.pairs index p found.within) in
+        grind (arith, common_steps, left, state_of eq hash limit new builder kept_shifted)
 
   module _ (old : State K V S) (before : IsValid limit eq old) where
     -- there is none
     pub shift_none_held : (index : ℕ) → length old.pairs ≤ index → ShiftRemovesAt limit eq old index None old
-    shift_none_held index past =
-        record { returned = sym (slice_get_past old.pairs index past); after = tt; removed = tt; unchanged = refl; valid = before }
+    shift_none_held index past = grind (arith, common_steps, slice_get_past)
 
     module _ (test : K → Bool) (one_class : IsQuery eq test) where
       -- a removal at the index that a search found

@@ -5,7 +5,7 @@ use Rattle.halfbrown.proofs.Common.{slice_get_cases, IsEquivalence, AllByRecursi
 use Rattle.halfbrown.proofs.Common.{set_key_at, value_of}
 use Rattle.std.proofs.Common.{set}
 use Rattle.std.proofs.Math.ListN.{set, length-map, get_or-map}
-use Rattle.std.proofs.lemmas.List.{map-set, set-set, length-set, take-set-le, get_or-set_other}
+use Rattle.std.proofs.lemmas.List.{map-set, set-set, length-set, take-map, take-set-le, get_or-set_other}
 use Rattle.std.proofs.lemmas.List.Sorted.{IsPermutation-swap_remove, IsPermutation-remove}
 use Rattle.std.proofs.lemmas.Map.Keys.{IsDistinct-IsPermutation}
 use Rattle.std.specs.List.{IsDistinct, swap_remove, remove}
@@ -17,13 +17,10 @@ use Rattle.halfbrown.specs.Updates.{HasKeyReplaced}
 use Rattle.halfbrown.proofs.lemmas.pairs.Indices.{IsFirst, first_of_index}
 
 module _ {A B : Type 0} (f : A → B) where
-  map-take : (n : ℕ) (xs : List A) → map f (take n xs) ≡ take n (map f xs)
-  map-take zero xs = refl
-  map-take (suc n) [] = refl
-  map-take (suc n) (x ∷ xs) = ap (λ l. f x ∷ l) (map-take n xs)
-
   map-swap_remove : (xs : List A) (i : ℕ) (d : A) → map f (swap_remove xs i d) ≡ swap_remove (map f xs) i (f d)
-  map-swap_remove xs i d = grind (arith, common_steps, get_or, get_or-map, length-map, map, map-set, map-take, set, take)
+  map-swap_remove xs i d =
+      let map-take : (n : ℕ) (ys : List A) → map f (take n ys) ≡ take n (map f ys) = λ n ys. sym (take-map f n ys) in
+      grind (arith, common_steps, get_or, get_or-map, length-map, map, map-set, map-take, set, take)
 
   pub map-swap_remove_at : (xs : List A) (i : ℕ) → map f (swap_remove_at xs i) ≡ swap_remove_at (map f xs) i
   map-swap_remove_at [] i = refl
@@ -209,13 +206,8 @@ module _ {K V : Type 0} (eq : K → K → Bool) (laws : IsEquivalence eq) (old n
   -- what callers read off the pairs
   pub has_key_replaced : (ps : List (K × V)) (i : ℕ) → slice_get (keys_of ps) i ≡ Some old → IsDistinct eq (keys_of ps)
       → HasKeyReplaced eq ps new (set_key_at ps i new)
-  has_key_replaced ps i at distinct = record {
-    pair = stored_pair_of-set_key_same ps i at distinct;
-    values = value_of-set_key_at ps i at;
-    others = stored_pair_of-set_key_at ps i at;
-    len = length-set_key_at ps i new;
-    order = values_of-set_key_at ps i new;
-  }
+  has_key_replaced ps i at distinct =
+      grind (arith, common_steps, length-set_key_at, stored_pair_of-set_key_at, stored_pair_of-set_key_same, value_of-set_key_at, values_of-set_key_at)
 
 pub map-remove : {A B : Type 0} (f : A → B) (xs : List A) (i : ℕ) → map f (remove xs i) ≡ remove (map f xs) i
 map-remove f [] zero = refl

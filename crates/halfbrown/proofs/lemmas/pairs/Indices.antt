@@ -7,6 +7,7 @@ use Rattle.halfbrown.proofs.Common.{holds_by}
 use Rattle.std.proofs.lemmas.List.{take-set-le}
 use Rattle.std.specs.List.{list_any}
 use Rattle.std.proofs.lemmas.Map.Keys.{apart_from_distinct}
+use Rattle.std.proofs.lemmas.Map.Made.{is_some-lookup}
 use Rattle.std.proofs.Math.Seq.{take-suc, take-length}
 
 module _ {K : Type 0} (test : K → Bool) where
@@ -16,17 +17,13 @@ module _ {K : Type 0} (test : K → Bool) where
   IsFirst (k ∷ ks) zero = test k ≡ true
   IsFirst (k ∷ ks) (suc i) = (test k ≡ false) × IsFirst ks i
 
-  -- no key passes
-  abbrev pub NonePasses : List K → Type 0
-  NonePasses [] = Unit {0}
-  NonePasses (k ∷ ks) = (test k ≡ false) × NonePasses ks
-
   pub first_of_index : (ks : List K) (i : ℕ) → index_of test ks ≡ Some i → IsFirst ks i
   first_of_index [] i e = absurd cc
   first_of_index (k ∷ ks) i e = grind (arith, common_steps, first_of_index ks)
 
-  pub none_of_index : (ks : List K) → index_of test ks ≡ None → NonePasses ks
-  none_of_index [] e = tt
+  -- no key passes
+  pub none_of_index : (ks : List K) → index_of test ks ≡ None → list_any test ks ≡ false
+  none_of_index [] e = refl
   none_of_index (k ∷ ks) e = grind (arith, common_steps, none_of_index ks)
 
   pub first_within : (ks : List K) (i : ℕ) → IsFirst ks i → i < length ks
@@ -47,13 +44,10 @@ module _ {K : Type 0} (test : K → Bool) where
   first_at (k ∷ ks) (suc i) d within here before =
       (before 0 (omega arith), first_at ks i d (omega arith) here (λ j h. before (suc j) (omega arith)))
 
-  pub none_at : (ks : List K) → ((j : ℕ) (d : K) → j < length ks → test (get_or ks j d) ≡ false) → NonePasses ks
-  none_at [] fails = tt
-  none_at (k ∷ ks) fails = (fails 0 k (omega arith), none_at ks (λ j d h. fails (suc j) d (omega arith)))
-
-  pub any_of_none : (ks : List K) → NonePasses ks → list_any test ks ≡ false
-  any_of_none [] n = refl
-  any_of_none (k ∷ ks) n = grind (arith, common_steps, any_of_none ks n.1)
+  pub none_at : (ks : List K) → ((j : ℕ) (d : K) → j < length ks → test (get_or ks j d) ≡ false) → list_any test ks ≡ false
+  none_at [] fails = refl
+  none_at (k ∷ ks) fails =
+      grind (arith, common_steps, fails 0 k (omega arith), none_at ks (λ j d h. fails (suc j) d (omega arith)))
 
 module _ {K V : Type 0} (test : K → Bool) where
   -- the value of the first pair that passes
@@ -66,17 +60,13 @@ module _ {K V : Type 0} (test : K → Bool) where
   index_of_first (p ∷ ps) zero f = grind (arith, common_steps)
   index_of_first (p ∷ ps) (suc i) f = grind (arith, common_steps, index_of_first ps i f.1)
 
-  pub absent_of_none : (ps : List (K × V)) → NonePasses test (keys_of ps) → KeyMissing test ps
-  absent_of_none [] n = grind (arith, common_steps)
-  absent_of_none (p ∷ ps) n = grind (arith, common_steps, absent_of_none ps n.1)
-
-  none_of_unheld : (ps : List (K × V)) → is_some (lookup test ps) ≡ false → NonePasses test (keys_of ps)
-  none_of_unheld [] h = tt
-  none_of_unheld (p ∷ ps) h = grind (arith, common_steps, none_of_unheld ps)
+  pub absent_of_none : (ps : List (K × V)) → list_any test (keys_of ps) ≡ false → KeyMissing test ps
+  absent_of_none [] none = grind (arith, common_steps)
+  absent_of_none (p ∷ ps) none = grind (arith, common_steps, absent_of_none ps)
 
   -- if no key that passes is held
   pub absent_of_unheld : (ps : List (K × V)) → holds_by test ps ≡ false → KeyMissing test ps
-  absent_of_unheld ps h = absent_of_none ps (none_of_unheld ps h)
+  absent_of_unheld ps h = absent_of_none ps (sym (is_some-lookup test ps) ∙ h)
 
   -- from the index of the first key that passes
   pub index_found : (ps : List (K × V)) (i : ℕ) → Some i ≡ index_of test (keys_of ps) → KeyFoundAt test ps i

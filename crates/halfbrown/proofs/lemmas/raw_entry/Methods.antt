@@ -2,7 +2,7 @@
 use Rattle.halfbrown.specs.Pairs.{IsQuery}
 use Rattle.halfbrown.proofs.Common.{◌≡◌, ℕ, ◌<◌, Bool, true, false, length, arith, List, [], ◌∷◌, ◌++◌, slice_get, Option, Some, unwrap_or, refl, ◌∙◌, None}
 use Rattle.halfbrown.proofs.Common.{is_some, sym, subst, IfSome, common_steps, length-keys_of, slice_get_cases, IsEquivalence, keys_of, values_of}
-use Rattle.halfbrown.proofs.Common.{swap_remove_at, set_value_at, occupied, entry_value, IsWritten, KeyFoundAt, KeyMissing, holds, State, WithPairs, IsValid}
+use Rattle.halfbrown.proofs.Common.{set_value_at, occupied, entry_value, IsWritten, KeyFoundAt, KeyMissing, holds, State, WithPairs, IsValid}
 use Rattle.halfbrown.proofs.Common.{HasPut}
 use Rattle.std.proofs.lemmas.Map.Entries.{length-values_of}
 use Rattle.std.specs.Borrow.{MutBor}
@@ -51,16 +51,6 @@ module _ {K V : Type 0} where
       → (unwrap_or (slice_get (keys_of ps) i) k, unwrap_or (slice_get (values_of ps) i) v) ≡ unwrap_or (slice_get ps i) (k, v)
   pair_or ps i k v = grind (arith, common_steps, key_of-pair ps i, value_of-pair ps i)
 
-  -- what holds of each pair that has its own value holds of one that is there
-  pair_there : (P : K × V → Type 0) (ps : List (K × V)) (i : ℕ)
-      → ((p : K × V) → unwrap_or (slice_get (values_of ps) i) p.1 ≡ p.1 → P p) → IfSome (slice_get ps i) P
-  pair_there P ps i holds = grind (arith, common_steps, slice_get_cases, value_of-pair ps i)
-
-  -- and what holds of its key and its value
-  pub pair_is : (P : K × V → Type 0) (ps : List (K × V)) (i : ℕ) (k : K) (v : V) → slice_get (keys_of ps) i ≡ Some k
-      → slice_get (values_of ps) i ≡ Some v → P (k, v) → IfSome (slice_get ps i) P
-  pair_is P ps i k v key value holds = grind (arith, common_steps, slice_get_cases, key_of-pair ps i, value_of-pair ps i)
-
 module _ {K V S L H : Type 0} {e : EqGhosts K} {h : HashGhosts K} {b : HasherGhosts S K H} {l : LimitGhosts L}
     (limit : ℕ) (eq : K → K → Bool) where
   module _ (o : OccupiedEntry K V S L H e h b l) where
@@ -94,34 +84,13 @@ module _ {K V S L H : Type 0} {e : EqGhosts K} {h : HashGhosts K} {b : HasherGho
       valid = valid;
     }
 
-    -- and with its own key
-    pub held_puts_pair : IsValid limit eq o.map.now
-        → IfSome (entry_pair (occupied o)) (λ pair. PutsEntry limit eq (occupied o) pair.0 pair.1 (occupied o))
-    held_puts_pair valid = pair_there _ o.map.now.pairs o.index (λ pair held.
-        subst (λ value. PutsEntry limit eq (occupied o) pair.0 value (occupied o)) held (held_puts pair.0 pair.1 valid))
-
 module _ {K V S : Type 0} (limit : ℕ) (eq : K → K → Bool) (prepared map : MutBor (State K V S)) (key : K) (value : V) (index : ℕ)
     (same_map : map.ghost_name ≡ prepared.ghost_name) (last : index ≡ length prepared.now.pairs)
     (after : WithPairs prepared.now (prepared.now.pairs ++ (key, value) ∷ []) map.now) (valid : IsValid limit eq map.now) where
   -- the pair that is appended is the one that is put
   added_puts : PutsEntry limit eq (record { map = prepared; index = None; vacant = None }) key value (record { map = map; index = Some index; vacant = None })
   unfolding map_with_value
-  added_puts =
-      let ps = prepared.now.pairs in
-      record {
-        same_map = same_map;
-        map = after;
-        key_is = (λ i. slice_get (keys_of (after.pairs i)) (last i)) ∙ key-last ps key value;
-        value_is = (λ i. slice_get (values_of (after.pairs i)) (last i)) ∙ value-last ps key value;
-        writes = λ u. record {
-          pairs = (λ i. set_value_at (after.pairs i) (last i) u) ∙ set_value_at-last ps key value u;
-          form = after.form;
-          capacity = after.capacity;
-          builder = after.builder;
-        };
-        without = (λ i. swap_remove_at (after.pairs i) (last i)) ∙ swap_remove_at-last ps (key, value);
-        valid = valid;
-      }
+  added_puts = grind (arith, common_steps, key-last, set_value_at-last, slice_get, swap_remove_at-last, value-last)
 
   -- if the key was not held its pair is put
   pub adds_pair : IsEquivalence eq → holds eq prepared.now.pairs key ≡ false

@@ -1,5 +1,5 @@
 -- A run so far, and one step more.
-use Rattle.halfbrown.proofs.Common.{◌≡◌, ℕ, Bool, false, length, arith, List, [], ◌∷◌, ◌++◌, refl, ap, ◌∙◌, sym, subst, common_steps, map-append, Work, TallyGrewBy}
+use Rattle.halfbrown.proofs.Common.{◌≡◌, ℕ, Bool, false, length, arith, List, [], ◌∷◌, ◌++◌, refl, ap, ◌∙◌, subst, map, common_steps, map-append, Work, TallyGrewBy}
 use Rattle.halfbrown.proofs.Common.{add_costs, Step, State, IsValid}
 use Rattle.std.proofs.Common.{◌||◌, append_assoc, append-nil}
 use Rattle.std.proofs.lemmas.List.{length-map}
@@ -42,17 +42,12 @@ module _ {K V S : Type 0} (limit : ℕ) (eq : K → K → Bool) where
           → TallyGrewBy (step_cost limit eq hash s) middle after → RunSoFar s.after left (replies ++ s.reply ∷ []) after
       step_more s left replies middle after so_far step state spent =
           let steps = so_far.steps in
-          let cost = cost_of limit eq hash steps in
           record {
             steps = steps ++ s ∷ [];
             lead = lead_on old s.before s.after steps (s ∷ []) so_far.lead (refl, step, state, refl);
-            commands_are = so_far.commands_are
-                ∙ sym (ap (λ cs. cs ++ left) (map-append (λ s. s.command) steps (s ∷ []))
-                ∙ append_assoc (commands_of steps) (s.command ∷ []) left);
-            replies_are = ap (λ rs. rs ++ s.reply ∷ []) so_far.replies_are ∙ sym (map-append (λ s. s.reply) steps (s ∷ []));
-            spent = subst (λ cost. TallyGrewBy cost before after)
-                (ap (add_costs cost) (more_none (step_cost limit eq hash s)) ∙ sym (cost_of-append steps (s ∷ [])))
-                (spent_both cost (step_cost limit eq hash s) before middle after so_far.spent spent);
+            commands_are = grind (arith, common_steps, append_assoc, map, map-append, so_far.commands_are);
+            replies_are = grind (arith, common_steps, map, map-append, so_far.replies_are);
+            spent = grind (arith, common_steps, cost_of-append, more_none, so_far.spent, spent_both);
           }
 
       pub run_ended : (now : State K V S) (left : List (Command K V)) (replies : List (Reply K V)) (after : Work) → left ≡ []

@@ -1,4 +1,4 @@
-use Rattle.halfbrown.proofs.Common.{◌≡◌, arith, [], refl, sym, subst, rules, common_steps, into_iter_items, Step}
+use Rattle.halfbrown.proofs.Common.{◌≡◌, arith, [], sym, subst, common_steps, into_iter_items, Step}
 use Rattle.std.proofs.lemmas.List.{nil_from_length}
 use Rattle.halfbrown.proofs.lemmas.run.Runs.{RunSoFar, no_step, step_more, run_ended, run_pays_two, table_stays}
 use Rattle.halfbrown.proofs.lemmas.run.Steps.{switch_left_most}
@@ -18,9 +18,6 @@ loop-command-init g c =
       capacity = omega (arith, c.in-Ok.ensures.len, c.in-Ok.ensures.capacity, c.len.ensures, c.into_iter-left.ensures.len);
       exact = omega (arith, c.in-Ok.ensures.exact, c.len.ensures, c.args.commands.ok.0);
     }
-
-pub push_reserved-requires : goal.push_reserved-requires
-push_reserved-requires g c = omega (arith, c.loop-command.invariant.capacity, c.in-Some.ensures.len)
 
 pub loop-command-preserved : goal.loop-command-preserved
 loop-command-preserved g c =
@@ -74,16 +71,3 @@ returns-clause-hashes g c none =
     let pays =
     run_pays_two g.L.Limit.LIMIT g.K.PartialEq.eq g.S.KeyHasher.hash _ _ _ _ run.0 none in
     omega (arith, run.1.asked, pays.all, switch_left_most g.L.Limit.LIMIT c.args.map.now.is_vec)
-
-pub returns-in_default : goal.returns-in_default
-returns-in_default g c = record {
-  run = tt;
-  empty = search rules;
-  memory = tt;
-  stays_a_table = λ _ table. table;
-  nothing_hashed = λ _ _. refl;
-  hashes = λ _. omega arith;
-  returned = refl;
-  err = refl;
-  no_work = refl;
-}

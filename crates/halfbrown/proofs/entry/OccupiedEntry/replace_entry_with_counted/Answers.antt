@@ -1,6 +1,4 @@
-use Rattle.halfbrown.proofs.Common.{arith, common_steps}
 use Rattle.halfbrown.proofs.lemmas.entry.Methods.{keeps_pair, kept_within, loses_pair}
-use Rattle.halfbrown.proofs.lemmas.map.Find.{vacancy_for}
 use Rattle.halfbrown.proofs.entry.OccupiedEntry.replace_entry_with_counted.Goals as goal
 
 pub invariant_of-result : goal.invariant_of-result
@@ -10,9 +8,6 @@ invariant_of-result g c =
 pub returns-in-Ok-clause-replaced : goal.returns-in-Ok-clause-replaced
 returns-in-Ok-clause-replaced g c =
     keeps_pair c.args.self _ _ c.in-Ok.ensures.replaces c.in-Ok.ensures.at c.in-Ok.ensures.after
-
-pub invariant_of-result-in-Err : goal.invariant_of-result-in-Err
-invariant_of-result-in-Err g c = grind (arith, common_steps, vacancy_for)
 
 pub returns-in-Err-clause-replaced : goal.returns-in-Err-clause-replaced
 returns-in-Err-clause-replaced g c =

@@ -1,10 +1,6 @@
 use Rattle.halfbrown.proofs.Common.{arith, common_steps, Gives}
 use Rattle.halfbrown.proofs.lemmas.map.Collect.{extends_of, item_more, item_refused, at_error, yields_more}
-use Rattle.halfbrown.proofs.lemmas.map.Costs.{spent_none}
 use Rattle.halfbrown.proofs.map.LimitedHashMap.extend_counted.Goals as goal
-
-pub loop-key-init : goal.loop-key-init
-loop-key-init g c = grind (arith, common_steps, spent_none)
 
 pub loop-key-preserved-in_ok-insert_counted : goal.loop-key-preserved-in_ok-insert_counted
 loop-key-preserved-in_ok-insert_counted g c = grind (arith, common_steps, item_more)
@@ -24,9 +20,6 @@ returns-clause-extended g c =
       },
       so_far.spent,
     )
-
-pub returns-in_err-insert_counted-clause-extended : goal.returns-in_err-insert_counted-clause-extended
-returns-in_err-insert_counted-clause-extended g c = grind (arith, common_steps, at_error)
 
 pub returns-in_err-insert_counted-clause-refused : goal.returns-in_err-insert_counted-clause-refused
 returns-in_err-insert_counted-clause-refused g c =

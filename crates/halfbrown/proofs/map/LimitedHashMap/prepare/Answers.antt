@@ -1,7 +1,5 @@
-use Rattle.halfbrown.proofs.Common.{◌≡◌, false, arith, ap, ◌∙◌, sym, common_steps, is_full, holds}
-use Rattle.std.proofs.lemmas.Result.{err_from_is_err_and}
-use Rattle.halfbrown.specs.Costs.{IsInsertCost}
-use Rattle.halfbrown.proofs.lemmas.map.Costs.{key_costs, held_costs, missing_costs, unmade_costs}
+use Rattle.halfbrown.proofs.Common.{arith, ap, ◌∙◌, sym, holds}
+use Rattle.halfbrown.proofs.lemmas.map.Costs.{key_costs, held_costs, missing_costs}
 use Rattle.halfbrown.proofs.lemmas.map.Growth.{switched_capacity}
 use Rattle.halfbrown.proofs.map.LimitedHashMap.prepare.Goals as goal
 
@@ -31,18 +29,3 @@ returns-in_ok-reserve_one_keeping-in-Err-clause-cost g c =
     c.in-Err.vacancy.hash (λ table. (missing.found.1 (omega (arith, missing.valid.table_exceeds table)) table).0 ∙ sym law)
     c.reserve_one_keeping.new.tally c.in_ok-reserve_one_keeping-in-Err.ensures.work
     (ap (λ ps. holds eq ps key) (sym switched.pairs) ∙ missing.found.0.held)
-
-pub returns-in_err-reserve_one_keeping-in-Err-clause-cost : goal.returns-in_err-reserve_one_keeping-in-Err-clause-cost
-returns-in_err-reserve_one_keeping-in-Err-clause-cost g c =
-    let eq = g.K.PartialEq.eq in
-    let key = c.args.key.now in
-    let switched = c.in_ok-switch_if_full.ensures.prepares.ok in
-    let missing = c.in-Err.ensures in
-    let law = g.met.S.KeyHasher.hash_is c.switch_if_full.new.self.builder key in
-    let searched = key_costs eq g.S.KeyHasher.hash c.switch_if_full.new.self key _ _ _ law missing.cost in
-    let unmade : is_full g.L.Limit.LIMIT c.args.self.now ≡ false
-    → IsInsertCost g.L.Limit.LIMIT eq g.S.KeyHasher.hash c.args.self.now key false c.args.tally.now c.find.new.tally = λ room.
-    unmade_costs g.L.Limit.LIMIT eq g.S.KeyHasher.hash c.args.self.now key
-    c.switch_if_full.new.self c.args.tally.now c.switch_if_full.new.tally c.find.new.tally
-    switched.form (switched_capacity _ _ _ switched) switched.pairs switched.builder c.in_ok-switch_if_full.ensures.work searched room in
-    grind (arith, common_steps, err_from_is_err_and, unmade)

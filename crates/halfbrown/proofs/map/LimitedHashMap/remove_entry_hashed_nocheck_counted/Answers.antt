@@ -1,4 +1,4 @@
-use Rattle.halfbrown.proofs.lemmas.map.Remove.{none_found, taken_found}
+use Rattle.halfbrown.proofs.lemmas.map.Remove.{taken_found}
 use Rattle.halfbrown.proofs.map.LimitedHashMap.remove_entry_hashed_nocheck_counted.Goals as goal
 
 pub returns-in-Ok-clause-removes : goal.returns-in-Ok-clause-removes
@@ -7,7 +7,3 @@ returns-in-Ok-clause-removes g c =
     let told = c.take_at.ensures in
     taken_found _ _ g.met.K.Eq.laws _ (g.met.Q.Equivalent.stands_for_equals c.args.key) _ searched.valid _ _ _ searched.found.0 told.taken told.after
     told.valid
-
-pub returns-in-Err-clause-removes : goal.returns-in-Err-clause-removes
-returns-in-Err-clause-removes g c =
-    none_found _ _ g.met.K.Eq.laws _ (g.met.Q.Equivalent.stands_for_equals c.args.key) _ c.in-Err.ensures.valid c.in-Err.ensures.found.0

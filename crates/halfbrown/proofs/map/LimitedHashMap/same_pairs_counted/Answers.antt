@@ -1,5 +1,5 @@
 use Rattle.halfbrown.proofs.Common.{arith, common_steps}
-use Rattle.halfbrown.proofs.lemmas.map.Equality.{all_is_same, unequal_lengths, all_searched, costs_none, none_searched}
+use Rattle.halfbrown.proofs.lemmas.map.Equality.{all_is_same, unequal_lengths, costs_none, none_searched}
 use Rattle.halfbrown.proofs.map.LimitedHashMap.same_pairs_counted.Goals as goal
 
 pub returns-then-len-clause-same : goal.returns-then-len-clause-same
@@ -10,6 +10,3 @@ returns-then-len-clause-cost g c = grind (arith, common_steps, costs_none, none_
 
 pub returns-clause-same : goal.returns-clause-same
 returns-clause-same g c = grind (arith, common_steps, all_is_same)
-
-pub returns-clause-cost : goal.returns-clause-cost
-returns-clause-cost g c = grind (arith, common_steps, all_searched)

@@ -1,5 +1,3 @@
-use Rattle.halfbrown.proofs.Common.{◌≡◌, false, subst}
-use Rattle.halfbrown.specs.RawEntry.{prepared_map}
 use Rattle.halfbrown.proofs.lemmas.raw_entry.Methods.{finds_held, finds_none}
 use Rattle.halfbrown.proofs.raw_entry.RawEntryBuilderMut.from_key_hashed_nocheck_counted.Goals as goal
 
@@ -10,16 +8,3 @@ returns-in-Ok-clause-searches g c =
 pub returns-in-Err-clause-searches : goal.returns-in-Err-clause-searches
 returns-in-Err-clause-searches g c =
     rw c.self-1.given.1 (finds_none _ _ g.met.K.Eq.laws _ c.in-Err.ensures.valid _ (g.met.Q.Equivalent.stands_for_equals c.args.key) c.in-Err.ensures.found.0)
-
-pub returns-in-Ok-clause-cost : goal.returns-in-Ok-clause-cost
-returns-in-Ok-clause-cost g c = rw c.self-1.given.1 c.in-Ok.ensures.cost
-
-pub returns-in-Err-clause-cost : goal.returns-in-Err-clause-cost
-returns-in-Err-clause-cost g c = rw c.self-1.given.1 c.in-Err.ensures.cost
-
-pub find_hashed-requires : goal.find_hashed-requires
-find_hashed-requires g c =
-    record {
-      known = subst (λ r. (prepared_map r).is_vec ≡ false → c.args.hash ≡ g.S.KeyHasher.hash_writes (prepared_map r).builder (g.Q.Hash.hash_input c.args.key))
-          c.self-1.given.1 c.requires;
-    }
