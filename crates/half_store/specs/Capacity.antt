@@ -51,7 +51,7 @@ least_capacity is_vec pairs = if is_vec then pairs else least_table_capacity pai
 abbrev pub is_vec_for : ℕ → ℕ → Bool
 is_vec_for limit pairs = nat_le pairs limit
 
--- whether the form is the vector after `shrink_to_fit`: it was one, or the limit allows the pairs. This is the one call that goes back
+-- whether the form is the vector after `shrink_to_fit`: it was one, or the limit allows the pairs
 abbrev pub is_vec_shrunk : ℕ → Bool → ℕ → Bool
 is_vec_shrunk limit is_vec pairs = is_vec || is_vec_for limit pairs
 
@@ -59,7 +59,7 @@ is_vec_shrunk limit is_vec pairs = is_vec || is_vec_for limit pairs
 abbrev pub shrunk_capacity : ℕ → Bool → ℕ → ℕ
 shrunk_capacity limit is_vec pairs = least_capacity (is_vec_shrunk limit is_vec pairs) pairs
 
--- of this many pairs as many as a form may hold: in a vector no more than the limit, in a table all
+-- this many pairs, but in a vector at most the limit
 abbrev pub pairs_capped : ℕ → Bool → ℕ → ℕ
 pairs_capped limit is_vec pairs = if is_vec then min pairs limit else pairs
 

@@ -49,7 +49,8 @@ module _ {K V S L H : Type 0} {e : EqGhosts K} {h : HashGhosts K} {b : HasherGho
   variant_view (Occupied o) = occupied o
   variant_view (Vacant v) = vacant v
 
-  -- the view of an entry of a key; its reference to the map stands by itself, as what is lent of it does
+  -- an entry as clauses see it: its key, its pair if it has one, and its map. The reference to the map stands by itself, as what is lent
+  -- of it does
   abbrev pub view : Entry K V S L H e h b l → EntryView K V S
   view entry = record (variant_view entry) { map = map_ref entry }
 
