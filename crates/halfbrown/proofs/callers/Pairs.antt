@@ -117,7 +117,8 @@ module _ {K V : Type 0} (eq : K → K → Bool) (laws : IsEquivalence eq) where
 
   -- ---- a removal
 
-  pub passing : (test : K → Bool) (ps : List (K × V)) (i : ℕ) → KeyFoundAt test ps i → (p : K × V) × (p ≡ get_or ps i p) × (test p.0 ≡ true)
+  pub passing : (test : K → Bool) (ps : List (K × V)) (i : ℕ) → KeyFoundAt test ps i
+      → (p : K × V) × (p ≡ get_or ps i p) × (test p.0 ≡ true)
   passing test [] i at = absurd (omega arith)
   passing test (q ∷ ps) i at = (
     get_or (q ∷ ps) i q,

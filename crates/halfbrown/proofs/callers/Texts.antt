@@ -69,7 +69,8 @@ module _ {K B : Type 0} (read : K → B) {same : B → B → Bool} (laws : IsEqu
       → CountsEach same (map of (take (i + 1) xs)) (keyed_by read new.pairs)
   counted_read_step of xs i d {old} {new} {k} {v} before puts within item more =
       let counted = counted_more laws (map of (take i xs)) before (has_put_read puts) in
-      grind (arith, common_steps, counted, lookup-keyed_by read (same (read k)) old.pairs, map, map-append, take_more xs i d within)
+      let held = lookup-keyed_by read (same (read k)) old.pairs in
+      grind (arith, common_steps, counted, held, map, map-append, take_more xs i d within)
 
   -- the step of one that sums by what is read of keys: `of` reads of an item what its key has, and the number
   pub summed_read_step : {A S : Type 0} {limit : ℕ} (of : A → B × ℕ) (xs : List A) (i : ℕ) (d : A) {old new : State K ℕ S} {k : K} {v : ℕ}
@@ -79,7 +80,8 @@ module _ {K B : Type 0} (read : K → B) {same : B → B → Bool} (laws : IsEqu
       → SumsEach same (map of (take (i + 1) xs)) (keyed_by read new.pairs)
   summed_read_step of xs i d {old} {new} {k} {v} before puts within item more =
       let summed = summed_more laws (map of (take i xs)) (of (get_or xs i d)).1 before (has_put_read puts) in
-      grind (arith, common_steps, lookup-keyed_by read (same (read k)) old.pairs, map, map-append, summed, take_more xs i d within)
+      let held = lookup-keyed_by read (same (read k)) old.pairs in
+      grind (arith, common_steps, held, map, map-append, summed, take_more xs i d within)
 
   -- no count is more than there are items
   pub count_read_fits : {A : Type 0} (of : A → B) (xs : List A) (ps : List (K × ℕ)) → CountsEach same (map of xs) (keyed_by read ps)

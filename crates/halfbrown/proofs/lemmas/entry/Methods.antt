@@ -12,7 +12,7 @@ use Rattle.halfbrown.specs.declared.entry.OccupiedEntry.{OccupiedEntry}
 use Rattle.halfbrown.specs.EntryView.{EntryView, pairs_with_value, map_with_value}
 use Rattle.halfbrown.specs.EntryView.{IsEntryOf, PutsThroughEntry, IsRawEntryOf, ModifiesEntry, HasEntryKeyReplaced}
 use Rattle.halfbrown.proofs.callers.Pairs.{has_put, has_removed_by}
-use Rattle.half_store.proofs.lemmas.store.States.{length-set_key_at, kept_value, lost_pair}
+use Rattle.half_store.proofs.lemmas.store.States.{kept_value, lost_pair}
 use Rattle.halfbrown.proofs.lemmas.map.Find.{placed-prop}
 use Rattle.halfbrown.proofs.lemmas.map.Layout.{keys_of-set_value_at}
 use Rattle.halfbrown.proofs.lemmas.pairs.Indices.{first_of_index, some_is_not_none}
@@ -161,10 +161,6 @@ module _ {K V S L H : Type 0} {e : EqGhosts K} {h : HashGhosts K} {b : HasherGho
         };
       }
 
-  -- the index is within if the map has the pairs with another key
-  pub rekeyed_within : (key : K) → o.index < length (set_key_at o.map.now.pairs o.index key)
-  rekeyed_within key = omega (arith, length-set_key_at o.map.now.pairs o.index key, o.within)
-
   -- the entry if its map has the pairs with another key
   pub rekeyed_entry : (key : K) (map : MutBor (State K V S)) → map.ghost_name ≡ o.map.ghost_name
       → map.now ≡ map_with_pairs o.map.now (set_key_at o.map.now.pairs o.index key)
@@ -198,7 +194,8 @@ module _ {K V : Type 0} where
   kept_at true ps i k u v at within =
       let front = swap_remove_at ps i in
       let end : length ps - 1 ≡ length front = omega (arith, length-swap_remove_at ps i (omega (arith, within))) in
-      grind (arith, common_steps, end, length-append, pair-last front, set_value_at-last front, swap_remove_at-last front, value-last front)
+      grind (arith, common_steps, end, length-append, pair-last front, set_value_at-last front, swap_remove_at-last front,
+      value-last front)
   kept_at false ps i k u v at within = record {
     within = omega (arith, within, length-set_value_at ps i v);
     pair = pair-set_value_at ps i k u v at;

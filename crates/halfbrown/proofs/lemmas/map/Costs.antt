@@ -50,10 +50,6 @@ module _ {K V S : Type 0} (limit : ℕ) (eq : K → K → Bool) (hash : S → K 
   pub held_costs : (is_full limit old ≡ false → middle ≡ old) → holds eq old.pairs k ≡ true → IsInsertCost limit eq hash old k true before after
   held_costs same held = grind (arith, common_steps, hit-read, found_where_held (eq k) old.pairs)
 
-  -- if capacity for a new key was refused
-  pub unmade_costs : is_full limit old ≡ false → IsInsertCost limit eq hash old k false before after
-  unmade_costs room = grind (arith, common_steps)
-
   pub missing_costs : (wanted : ℕ) → (middle.is_vec ≡ false → wanted ≡ hash middle.builder k) → (final : Work)
       → final ≡ looked_more (growth_probe_reads (hash middle.builder) middle wanted true) after → holds eq old.pairs k ≡ false
       → IsInsertCost limit eq hash old k true before final

@@ -2,7 +2,7 @@
 use Rattle.halfbrown.specs.Pairs.{IsQuery}
 use Rattle.halfbrown.proofs.Common.{◌≡◌, ℕ, ◌≤◌, Bool, true, length, arith, ◌++◌, slice_get, Option, Some, ◌∙◌, None, sym, map, ◌-◌, common_steps}
 use Rattle.halfbrown.proofs.Common.{length-keys_of, slice_get_within, IsEquivalence, lookup, lookup_entry, option_map, swap_remove_at, StoreState}
-use Rattle.halfbrown.proofs.Common.{state_in, IsMapInvariant, KeyFoundAt, KeyMissing, swap_out_by, SwapRemoves, State, WithPairs, IsValid}
+use Rattle.halfbrown.proofs.Common.{state_in, IsMapInvariant, KeyFoundAt, swap_out_by, SwapRemoves, State, WithPairs, IsValid}
 use Rattle.std.proofs.Common.{option_to_list}
 use Rattle.std.proofs.lemmas.List.{append-nil}
 use Rattle.std.proofs.lemmas.Option.{slice_get_past}
@@ -44,10 +44,6 @@ module _ {K V S : Type 0} (limit : ℕ) (eq : K → K → Bool) (laws : IsEquiva
       (record { pairs = after.pairs ∙ sym found.take_is; form = after.form; capacity = after.capacity; builder = after.builder })
       _ _ (sym at ∙ sym found.pair) tt
 
-  -- it found none
-  pub none_found : KeyMissing test old.pairs → SwapRemoves limit eq test old (lookup_entry test old.pairs) None old
-  none_found absent = grind (arith, common_steps, removed_as)
-
 module _ {K V S : Type 0} (limit : ℕ) (eq : K → K → Bool) (old : State K V S) (index : ℕ) where
   -- the pair at an index is taken out
   pub removed_at : IsEquivalence eq → (pair : K × V) (new : State K V S) → IsValid limit eq old → IsValid limit eq new
@@ -55,7 +51,8 @@ module _ {K V S : Type 0} (limit : ℕ) (eq : K → K → Bool) (old : State K V
       → WithPairs old (swap_remove_at old.pairs index) new → SwapRemovesAt limit eq old index (Some pair) new
   removed_at laws pair new before now at after =
       let found = index_of_pair eq laws old.pairs index pair before.distinct at in
-      grind (arith, common_steps, found.take_is, has_removed_by eq laws (eq pair.0) (laws.congr pair.0) old.pairs before.distinct)
+      let removed = has_removed_by eq laws (eq pair.0) (laws.congr pair.0) old.pairs before.distinct in
+      grind (arith, common_steps, found.take_is, removed)
 
   -- there is none
   pub none_removed_at : IsValid limit eq old → length old.pairs ≤ index → SwapRemovesAt limit eq old index None old
