@@ -6,6 +6,7 @@ use halfbrown::{Limit, LimitedHashMap};
 use std::hash::{BuildHasher, Hash};
 
 /// Keeps the goods whose count is at least this, in their order.
+#[tactic(auto, using(std::proofs::lemmas::Map::Made::filter_same_pairs))]
 pub fn keep_from<K: Eq + Hash + Drop, S: BuildHasher, L: Limit>(
     stock: &mut LimitedHashMap<K, u64, S, L>,
     least: u64,
@@ -14,11 +15,7 @@ pub fn keep_from<K: Eq + Hash + Drop, S: BuildHasher, L: Limit>(
     ensures form { stock.new.is_vec ≡ stock.old.is_vec }
     ensures capacity { stock.new.capacity ≡ stock.old.capacity }
 {
-    stock.retain(
-        |_, count: &mut u64| -> bool
-            ensures { (result ≡ nat_le least count.old) × (count.new ≡ count.old) }
-        { least <= *count },
-    );
+    stock.retain(|_, count| least <= *count);
 }
 
 /// Halves each price.
