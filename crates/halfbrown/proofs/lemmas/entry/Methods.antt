@@ -194,8 +194,16 @@ module _ {K V : Type 0} where
   kept_at true ps i k u v at within =
       let front = swap_remove_at ps i in
       let end : length ps - 1 ≡ length front = omega (arith, length-swap_remove_at ps i (omega (arith, within))) in
-      grind (arith, common_steps, end, length-append, pair-last front, set_value_at-last front, swap_remove_at-last front,
-      value-last front)
+      grind (
+        arith,
+        common_steps,
+        end,
+        length-append,
+        pair-last front,
+        set_value_at-last front,
+        swap_remove_at-last front,
+        value-last front,
+      )
   kept_at false ps i k u v at within = record {
     within = omega (arith, within, length-set_value_at ps i v);
     pair = pair-set_value_at ps i k u v at;

@@ -207,8 +207,15 @@ module _ {K V : Type 0} (eq : K → K → Bool) (laws : IsEquivalence eq) (old n
   pub has_key_replaced : (ps : List (K × V)) (i : ℕ) → slice_get (keys_of ps) i ≡ Some old → IsDistinct eq (keys_of ps)
       → HasKeyReplaced eq ps new (set_key_at ps i new)
   has_key_replaced ps i at distinct =
-      grind (arith, common_steps, length-set_key_at, stored_pair_of-set_key_at, stored_pair_of-set_key_same,
-      value_of-set_key_at, values_of-set_key_at)
+      grind (
+        arith,
+        common_steps,
+        length-set_key_at,
+        stored_pair_of-set_key_at,
+        stored_pair_of-set_key_same,
+        value_of-set_key_at,
+        values_of-set_key_at,
+      )
 
 pub map-remove : {A B : Type 0} (f : A → B) (xs : List A) (i : ℕ) → map f (remove xs i) ≡ remove (map f xs) i
 map-remove f [] zero = refl
