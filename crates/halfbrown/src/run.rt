@@ -1,7 +1,7 @@
 //! Whole runs: a list of commands, done one after another, with a reply to each.
 ghost use Rattle.std.specs.Prelude.{◌≡◌, ◌+◌, ◌*◌, ◌≤◌, true, false, [], length, vec_capacity, IsOk, IfOk, IfErr, OnErr};
 ghost use Rattle.halfbrown.specs.CostRanges.{TallyGrewBy};
-ghost use Rattle.halfbrown.specs.Run.{Runs, cost_of, has_shrink, ExecutesAtCost};
+ghost use Rattle.halfbrown.specs.Run.{Runs, cost_of, has_shrink, Executes, ExecutesAtCost};
 
 use crate::{KeyHasher, Limit, LimitedHashMap, Refused};
 use half_store::{Refusal, Tally, uncounted};
@@ -137,24 +137,15 @@ fn step<K: Eq + Hash + Drop, V: Copy, S: KeyHasher<K>, L: Limit>(
     ensures { ExecutesAtCost L.LIMIT K.eq S.hash map.old command result map.new tally.old tally.new }
 {
     match command {
-        Command::Insert(key, value) => match map.insert_counted(key, value, tally) {
-            Ok(old) => Reply::Was(old),
-            Err(Refused { key, value, why }) => Reply::Refused(Command::Insert(key, value), why),
-        },
+        Command::Insert(key, value) => insert(map, key, value, tally),
         Command::InsertNew(key, value) => insert_new(map, key, value, tally),
-        Command::EntryOrInsert(key, value) => match map.entry_counted(key, tally) {
-            Ok(entry) => Reply::Value(*entry.or_insert(value)),
-            Err(refused) => Reply::Refused(Command::EntryOrInsert(refused.key, value), refused.why),
-        },
+        Command::EntryOrInsert(key, value) => entry_or_insert(map, key, value, tally),
         Command::RawOrInsert(key, value) => raw_or_insert(map, key, value, tally),
         Command::Clear => {
             map.clear();
             Reply::Done
         }
-        Command::Reserve(additional) => match map.reserve(additional) {
-            Ok(()) => Reply::Done,
-            Err(why) => Reply::Refused(Command::Reserve(additional), why),
-        },
+        Command::Reserve(additional) => reserve(map, additional),
         Command::Shrink => {
             map.shrink_to_fit();
             Reply::Form(map.is_vec())
@@ -163,6 +154,22 @@ fn step<K: Eq + Hash + Drop, V: Copy, S: KeyHasher<K>, L: Limit>(
         Command::Remove(key) => Reply::Removed(map.remove_entry_counted(&key, tally)),
         Command::IsVec => Reply::Form(map.is_vec()),
         Command::Len => Reply::Length(map.len()),
+    }
+}
+
+// Inserts a pair, or replaces the value of its key.
+fn insert<K: Eq + Hash + Drop, V, S: KeyHasher<K>, L: Limit>(
+    map: &mut LimitedHashMap<K, V, S, L>,
+    key: K,
+    value: V,
+    tally: &mut Tally,
+) -> Reply<K, V>
+    ensures { ExecutesAtCost L.LIMIT K.eq S.hash map.old (Command.Insert key value) result map.new
+        tally.old tally.new }
+{
+    match map.insert_counted(key, value, tally) {
+        Ok(old) => Reply::Was(old),
+        Err(Refused { key, value, why }) => Reply::Refused(Command::Insert(key, value), why),
     }
 }
 
@@ -185,6 +192,22 @@ fn insert_new<K: Eq + Hash + Drop, V: Copy, S: KeyHasher<K>, L: Limit>(
     }
 }
 
+// Inserts a pair if the key is not held, by one search.
+fn entry_or_insert<K: Eq + Hash + Drop, V: Copy, S: KeyHasher<K>, L: Limit>(
+    map: &mut LimitedHashMap<K, V, S, L>,
+    key: K,
+    value: V,
+    tally: &mut Tally,
+) -> Reply<K, V>
+    ensures { ExecutesAtCost L.LIMIT K.eq S.hash map.old (Command.EntryOrInsert key value) result map.new
+        tally.old tally.new }
+{
+    match map.entry_counted(key, tally) {
+        Ok(entry) => Reply::Value(*entry.or_insert(value)),
+        Err(refused) => Reply::Refused(Command::EntryOrInsert(refused.key, value), refused.why),
+    }
+}
+
 // Inserts a pair if the key is not held, through a raw entry.
 fn raw_or_insert<K: Eq + Hash + Drop, V: Copy, S: KeyHasher<K>, L: Limit>(
     map: &mut LimitedHashMap<K, V, S, L>,
@@ -202,5 +225,18 @@ fn raw_or_insert<K: Eq + Hash + Drop, V: Copy, S: KeyHasher<K>, L: Limit>(
             Reply::Value(*entry.get())
         }
         Err(why) => Reply::Refused(Command::RawOrInsert(key, value), why),
+    }
+}
+
+// Makes the capacity enough for more pairs.
+fn reserve<K: Eq + Hash, V, S: KeyHasher<K>, L: Limit>(
+    map: &mut LimitedHashMap<K, V, S, L>,
+    additional: usize,
+) -> Reply<K, V>
+    ensures { Executes L.LIMIT K.eq map.old (Command.Reserve additional) result map.new }
+{
+    match map.reserve(additional) {
+        Ok(()) => Reply::Done,
+        Err(why) => Reply::Refused(Command::Reserve(additional), why),
     }
 }

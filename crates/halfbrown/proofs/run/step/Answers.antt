@@ -3,14 +3,23 @@ use Rattle.halfbrown.specs.declared.run.Reply.TheVariants.{Form, Found, Length, 
 use Rattle.halfbrown.proofs.lemmas.map.Costs.{key_costs, spent_none}
 use Rattle.halfbrown.proofs.run.step.Goals as goal
 
+pub returns-in-Insert : goal.returns-in-Insert
+returns-in-Insert g c = rw c.in-Insert.is c.insert.ensures
+
 pub returns-in-InsertNew : goal.returns-in-InsertNew
 returns-in-InsertNew g c = rw c.in-InsertNew.is c.insert_new.ensures
+
+pub returns-in-EntryOrInsert : goal.returns-in-EntryOrInsert
+returns-in-EntryOrInsert g c = rw c.in-EntryOrInsert.is c.entry_or_insert.ensures
 
 pub returns-in-RawOrInsert : goal.returns-in-RawOrInsert
 returns-in-RawOrInsert g c = rw c.in-RawOrInsert.is c.raw_or_insert.ensures
 
 pub returns-in-Clear : goal.returns-in-Clear
 returns-in-Clear g c = rw c.in-Clear.is (record { step = (refl, c.clear.ensures.after); cost = spent_none _ })
+
+pub returns-in-Reserve : goal.returns-in-Reserve
+returns-in-Reserve g c = rw c.in-Reserve.is (record { step = c.reserve.ensures; cost = spent_none _ })
 
 pub returns-in-Shrink : goal.returns-in-Shrink
 returns-in-Shrink g c =
