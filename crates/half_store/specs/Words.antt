@@ -20,7 +20,7 @@ greatest_word (EightBytes v) = 2 ^ 62
 abbrev pub word_size : ℕ → ℕ
 word_size most = if nat_lt most (2 ^ 32) then 4 else 8
 
--- words up to `most` are those of a table with this capacity: they fit its entry indices, and take no more bytes than that needs
+-- words up to `most` serve a table with this capacity: its entry indices fit them, and they take no more bytes than that needs
 pub record AreWordsFor (most capacity : ℕ) : Type 0 where
   pub fits : capacity ≤ most
   pub size : word_size most ≡ word_size capacity

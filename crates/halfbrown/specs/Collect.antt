@@ -88,6 +88,7 @@ module _ {K V S : Type 0} (limit : ℕ) (eq : K → K → Bool) where
     insertions_cost old (p ∷ items) new inserted =
         add_costs (insert_cost limit eq hash old p.0 true) (insertions_cost inserted.0 items new inserted.3)
 
+    -- and those before an insertion that was refused, and that one
     abbrev pub refused_cost : {given : List (K × V) → Type 0} {old : State K V S} {why : Refusal} {new : State K V S}
         → InsertRefused given old why new → Cost
     refused_cost {old = old} {new = new} r =

@@ -7,6 +7,7 @@ pub record Range : Type 0 where
   pub least : ℕ
   pub greatest : ℕ
 
+-- no range: this number
 abbrev pub exactly : ℕ → Range
 exactly n = record { least = n; greatest = n }
 

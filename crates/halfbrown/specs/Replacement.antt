@@ -29,7 +29,7 @@ module _ {K V S : Type 0} where
     pub writes : (v : V) → WithPairs (map_of entry) (pairs_without entry ++ (key, v) ∷ []) (map_with_value result v)
     pub without : pairs_without result ≡ pairs_without entry
 
-  -- the closure was given the stored key and its value, and its answer decides what becomes of the pair
+  -- the closure was given the stored key and its value, and its answer decides: none removes the pair, and a value replaces that of the pair
   pub record ReplacesEntry (returns : Bor K → V → Option V → Type 0) (entry result : EntryView K V S) : Type 0 where
     pub key : K
     pub value : V

@@ -49,6 +49,7 @@ module _ {K V S : Type 0} where
     pub capacity : new.capacity ≡ old.capacity
     pub builder : new.builder ≡ old.builder
 
+-- how a state is told from its store and builder, as derived types are
 abbrev pub state_code : {K V S : Type 0} → Coded K → Coded V → Coded S → Coded (State K V S)
 state_code k v s = coded_via (coded× (store_code k v) s) (λ m. (store_in m, m.builder)) (λ a b e i. state_in (e i).0 (e i).1)
 
