@@ -8,14 +8,6 @@ use Rattle.half_store.specs.Store.{StoreState, SameFormAndCapacity}
 use Rattle.half_store.specs.Table.{IsOtherEmpty}
 use Rattle.std.specs.List.{remove}
 
--- the bucket of the last pair, which a probe for its hash finds, has this entry index now
-pub record RenamesLast (hashes old : List ℕ) (index : ℕ) (new : List ℕ) (before after : Work) : Type 0 where
-  pub bucket : ℕ
-  pub at : slice_index old bucket ≡ length hashes
-  pub near : reads_up_to (length old) (slice_index hashes (length hashes - 1)) bucket < reach hashes (length old) (slice_index hashes (length hashes - 1))
-  pub words : new ≡ slice_set old bucket (index + 1)
-  pub reads : ReadsWithin (reads_up_to (length old) (slice_index hashes (length hashes - 1)) bucket) before after
-
 -- closing the gap at this bucket reads those after it, up to any empty one
 abbrev pub ShiftReadsWithin : List ℕ → List ℕ → ℕ → Work → Work → Type 0
 ShiftReadsWithin hashes old removed before after = (vacant : ℕ) → IsOtherEmpty (slots_from hashes (slice_set old removed 0)) removed vacant →

@@ -7,7 +7,7 @@ ghost use Rattle.std.specs.List.{swap_remove};
 ghost use Rattle.half_store.specs.Capacity.{IsBucketCount};
 ghost use Rattle.half_store.specs.Work.{reads_up_to, looked_more, ReadsWithin, removal_reads_at};
 ghost use Rattle.half_store.specs.Reach.{home, probe_distance, reach};
-ghost use Rattle.half_store.specs.StoreRemoval.{RenamesLast, ShiftReadsWithin};
+ghost use Rattle.half_store.specs.StoreRemoval.{ShiftReadsWithin};
 ghost use Rattle.half_store.specs.Table.{IsIndexed, IsIndexedWithGap};
 
 use super::probe::{home, next};
@@ -36,35 +36,16 @@ pub(super) fn remove_at<B: WordsMut>(
     ensures cost { ReadsWithin (removal_reads_at hashes.old.items (length (B.words buckets.old)) index
         bucket) tally.old tally.new }
 {
-    rename_last(buckets, hashes.as_slice(), index, bucket, tally);
+    let last = hashes.len() - 1;
+    let last_bucket = if index == last {
+        bucket
+    } else {
+        bucket_of(buckets, hashes.as_slice(), last, tally)
+    };
+    buckets.set_word(last_bucket, index + 1);
     let hash = hashes.swap_remove(index);
     backward_shift(buckets, hashes.as_slice(), bucket, tally);
     hash
-}
-
-/// Writes this entry index, which stands in this bucket, into the bucket of the last pair. If the pair is the last one
-/// nothing is read.
-#[inline(always)]
-fn rename_last<B: WordsMut>(
-    buckets: &mut B,
-    hashes: &[u64],
-    index: usize,
-    bucket: usize,
-    tally: &mut Tally,
-)
-    requires indexed { IsIndexed hashes.now (B.words buckets.old) }
-    requires within { index < length hashes.now }
-    requires at { slice_index (B.words buckets.old) bucket ≡ index + 1 }
-    requires fits { length hashes.now ≤ B.most buckets.old }
-    ensures renames { RenamesLast hashes.now (B.words buckets.old) index (B.words buckets.new)
-        tally.old tally.new }
-    ensures most { B.most buckets.new ≡ B.most buckets.old }
-{
-    let last = hashes.len() - 1;
-    if index != last {
-        let last_bucket = bucket_of(buckets, hashes, last, tally);
-        buckets.set_word(last_bucket, index + 1);
-    }
 }
 
 /// The bucket of the pair at this entry index: where a probe from its stored hash meets the index. It reads fewer buckets than
