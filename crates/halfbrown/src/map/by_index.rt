@@ -1,7 +1,7 @@
 //! Pairs by their index in the order of the pairs: read, written, found by a key, and removed.
 //!
 //! A clause `writes_back` says what the map is once the borrow that the call returns has ended.
-ghost use Rattle.std.specs.Prelude.{◌≡◌, ◌-◌, ◌<◌, ◌↔◌, ◌++◌, IsSome, length, option_to_list, slice_get};
+ghost use Rattle.std.specs.Prelude.{◌≡◌, ◌-◌, ◌<◌, ◌↔◌, ◌++◌, IsSome, length, option_to_list, slice_get, take};
 ghost use Rattle.std.specs.Borrow.{sem};
 ghost use Rattle.std.specs.Map.{keys_of, values_of};
 ghost use Rattle.std.specs.Map.Iter.{deref_pair};
@@ -10,7 +10,7 @@ ghost use Rattle.half_store.specs.PairLists.{index_of};
 ghost use Rattle.halfbrown.specs.Costs.{IsLookupCost};
 ghost use Rattle.halfbrown.specs.Lookup.{FindsIndex};
 ghost use Rattle.halfbrown.specs.Updates.{SwapRemovesAt};
-ghost use Rattle.halfbrown.specs.State.{IsValid};
+ghost use Rattle.halfbrown.specs.State.{IsValid, WithPairs};
 
 use super::LimitedHashMap;
 use crate::{Equivalent, KeyHasher, Limit};
@@ -191,5 +191,25 @@ impl<K: Eq + Hash, V, S: KeyHasher<K>, L: Limit> LimitedHashMap<K, V, S, L> {
             result self.new }
     {
         self.swap_remove_index(self.len().saturating_sub(1))
+    }
+
+    /// Removes all but the first pairs, of which this many stay, the last one first. If no more are held, nothing changes.
+    /// The form and the capacity stay. Nothing is hashed or compared, and no memory is needed. In a table the bucket of
+    /// each pair that goes is probed for.
+    ///
+    /// ```
+    /// ages.truncate(1);
+    /// assert_eq!(rt; ages.last(), Some((&1, &36)));
+    /// ```
+    pub fn truncate(&mut self, len: usize)
+    where
+        K: Drop,
+        V: Drop,
+        ensures after { WithPairs self.old (take len self.old.pairs) self.new }
+        ensures valid { IsValid L.LIMIT K.eq self.new }
+    {
+        while len < self.len() {
+            self.pop();
+        }
     }
 }
