@@ -4,6 +4,7 @@ import os
 import pathlib
 import re
 import shutil
+import subprocess
 import sys
 
 TESTS = pathlib.Path(__file__).resolve().parent
@@ -48,6 +49,12 @@ def crate_above(folder, name, *below):
         lines.write(f"{name}: {' '.join(below)}\n")
     (crate / "src").mkdir(parents=True)
     return crate
+
+
+def said_by(command, **given):
+    """What a command prints, and then what is on its standard error."""
+    ran = subprocess.run(command, stdin=subprocess.DEVNULL, capture_output=True, text=True, errors="replace", **given)
+    return ran.stdout + ran.stderr
 
 
 def end(told):
