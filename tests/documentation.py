@@ -156,17 +156,17 @@ def examples():
         files["lib"] = "#![tactic(auto)]\n" + "".join(f"#[cfg(test)]\nmod {name};\n" for name in files)
         for name, tests in files.items():
             (crate / f"src/{name}.rt").write_text(tests)
-        ran = subprocess.run(["rt", "try", "--test"], cwd=crate, stdin=subprocess.DEVNULL, capture_output=True, text=True)
-    print(ran.stdout + ran.stderr if ran.returncode else "", end="")
+        said = tools.said_by(["rt", "try", "--test"], cwd=crate)
+    print("" if "test result: ok" in said else said, end="")
     names = [f"{name}::{test}" for name, tests in files.items() for test in re.findall(r"fn (line_\d+)", tests)]
-    yield from ((f"the example {name}", f"test {name} ... ok\n" in ran.stdout) for name in names)
+    yield from ((f"the example {name}", f"test {name} ... ok\n" in said) for name in names)
 
 
 CALLING, USING, PROOFS = (TOP / f"crates/halfbrown/{it}.md" for it in ("CALLING", "USING", "PROOFS"))
 if sys.argv[1:] == ["--write"]:
     sys.exit(not CALLING.write_text(calling.written(CALLING.read_text())))
-git = subprocess.run(["git", "ls-files", "-co", "--exclude-standard"], cwd=TOP, capture_output=True, text=True, check=True)
-files = [it for it in git.stdout.splitlines() if (TOP / it).exists()]
+git = tools.said_by(["git", "ls-files", "-co", "--exclude-standard"], cwd=TOP)
+files = [it for it in git.splitlines() if (TOP / it).exists()]
 tree = "\n".join(f"/{it}" for it in files)
 claims = [(f"{it}: {what}", stands) for it in files if it.endswith(".md") for what, stands in named(TOP / it, tree)]
 for shown in (imports, snippets, lemmas):

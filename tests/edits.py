@@ -8,14 +8,14 @@ tests/edits/CRATE/PATH.edits has those of crates/CRATE/src/PATH.rt, each below a
     old: TEXT            stands once in that file, and the text of the next line, `new: TEXT`, takes its place
     each: TEXT           the same for a text that stands several times
     file: PATH ..        from here on these files of the crate are meant
-    refused by: CLAUSE   the goal that is not proved has to be of this clause; of a call's only clause it is that of a return
+    refused by: CLAUSE   the goal that is not proved is one of this clause; if a call has one clause, that of a return
     found by: ..         no contract can refuse the edit: a test finds it, by the head of found_by.py
 
 The last is for edits that refuse memory, since no contract says that it is found; that do work past the count, in a call with no
 tally or with another one; that drop in another way; or that print another debug form. A comment gives any other reason.
 
-The crates are proved first, if out/ lacks that. Several edits are planted in one copy of the sources if each shows in a place of
-its own. One that does not show there is tried by itself. The last line is "N passed, M failed".
+The crates are proved first, if out/ lacks that. Several edits are planted in one copy of the sources if each shows in a place
+of its own. One that does not show there is tried by itself. The last line is "N passed, M failed".
 """
 
 import os
@@ -38,7 +38,7 @@ MEMORY, MOST_TOGETHER = 2_000_000_000, 24
 
 
 class Edit:
-    """An edit: its name, its crate and its changes; what tries it, together with edits that show elsewhere, and where it shows."""
+    """An edit: its crate, name and changes; what tries it, together with edits that show elsewhere, and where it shows."""
 
     def __init__(self, path, text):
         self.place = str(path.relative_to(EDITS).with_suffix(""))
@@ -100,8 +100,8 @@ def attempt(edits):
     # Below out/, since links do not lead to another disk.
     with tempfile.TemporaryDirectory(prefix="edits.", dir=tools.TOP / "out") as folder:
         try:
-            crates = tools.crates_of(*([crate] if finder == refused_by else []))
-            copy = tools.copy_sources(pathlib.Path(folder), crates, proved=finder == refused_by)
+            given = (tools.crates_of(crate), ()) if finder == refused_by else (tools.crates_of(),)
+            copy = tools.copy_sources(pathlib.Path(folder), *given)
             for edit in edits:
                 edit.plant(copy)
             found = finder.judge(edits, copy)

@@ -3,8 +3,8 @@
 A program takes half a minute to compile, so edits of one finder are planted in one, and each has to show in a place of its own.
 `found by:` names the finder, and the place if the finder has several:
 
-    the random run N, PART of CALL       the `answer`, `work`, `state` or `drops` of this call differs. Edits of one N show in no
-                                         other's place: whoever writes one sees to that
+    the random run N, PART of CALL       the `answer`, `work`, `state` or `drops` of this call differs. Who writes an edit sees that
+                                         no other of its N shows there
     scripts/FILE.txt                     a call of this script has an answer that is not wanted
     the tests of half_tests              one fails
     coverage.py FUNCTION                 it has more blocks that no test enters than the list has
@@ -42,8 +42,8 @@ def build(copy, name):
 
 
 def build_witness(copy, first_lines):
-    """Builds `witness` for scripts with these first lines, such as ("map", "5"). It has no other limits, and `owning` maps only if
-    they are named."""
+    """Builds `witness` for scripts with these first lines, such as ("map", "5"): with no other limits, and with `owning` maps
+    only if they are named."""
     script = copy / "crates/witness/src/script.rt"
     kinds, limits = zip(*first_lines)
     arm = re.compile(r'^ +"(\d+)" => self\.\w+::<.*>\(.*\),\n', re.M)

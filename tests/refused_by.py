@@ -12,7 +12,7 @@ import re
 import tools
 
 FUNCTION = re.compile(r"( *)(?:pub(?:\([^)]*\))? )?(?:const |unsafe )*fn (\w+)")
-# A message of a check: the file, the line, after `error: ` the name of a declaration, and the text. Or what it says of a function.
+# A message of a check: the file, the line, after `error: ` the name of a declaration, and the text. What it says of a function.
 PLACED = re.compile(r"(?:note: )?(?:\./)?((?:src|specs|proofs)/\S+?):(\d+):\d+: ?(?:error: (`[^`]*`: )?)?(.*)")
 NOT_PROVED = re.compile(r"fn \S*?(\w+): .*did not prove.*")
 # A proof misses a name, or was not read, which says nothing of a contract.

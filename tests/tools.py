@@ -28,16 +28,16 @@ def crates_of(*names):
     return {name: lines[name] for name in lines if name in found}
 
 
-def copy_sources(folder, crates, proved=False):
-    """Copies the tests and crates; with `proved` also the proofs, and links of out/, which rt replaces and never writes to."""
+def copy_sources(folder, crates, without=("out", "proofs")):
+    """Copies the tests and crates, but for these folders; out/ is copied as links, since rt replaces its files."""
     shutil.copytree(TESTS, folder / "tests", ignore=shutil.ignore_patterns("__pycache__"))
-    for name in ("HANDLES", "Makefile"):
+    for name in ("HANDLES", "Makefile", "CHANGELOG.md"):
         shutil.copy(TOP / name, folder)
     (folder / "crates.txt").write_text("".join(f"{name}:{below}\n" for name, below in crates.items()))
     for name in crates:
         crate, copy = TOP / "crates" / name, folder / "crates" / name
-        shutil.copytree(crate, copy, ignore=lambda at, _: {"out", "" if proved else "proofs"} if at == str(crate) else ())
-        if proved and (crate / "out").is_dir():
+        shutil.copytree(crate, copy, ignore=lambda at, _: {"out", *without} if at == str(crate) else ())
+        if "out" not in without and (crate / "out").is_dir():
             shutil.copytree(crate / "out", copy / "out", copy_function=os.link)
     return folder
 
