@@ -8,11 +8,11 @@ tests/edits/CRATE/PATH.edits has those of crates/CRATE/src/PATH.rt, each below a
     old: TEXT            stands once in that file, and the text of the next line, `new: TEXT`, takes its place
     each: TEXT           the same for a text that stands several times
     file: PATH ..        from here on these files of the crate are meant
-    refused by: CLAUSE   the goal that is not proved is one of this clause; if a call has one clause, that of a return
+    refused by: CLAUSE   the goal that is not proved is of this clause; if a call has one clause, that of a return
     found by: ..         no contract can refuse the edit: a test finds it, by the head of found_by.py
 
-The last is for edits that refuse memory, since no contract says that it is found; that do work past the count, in a call with no
-tally or with another one; that drop in another way; or that print another debug form. A comment gives any other reason.
+The last is for edits that refuse memory, since no contract says that it is found; that do work past the count, in a call with
+no tally or with another one; that drop in another way; or that print another debug form. A comment gives any other reason.
 
 The crates are proved first, if out/ lacks that. Several edits are planted in one copy of the sources if each shows in a place
 of its own. One that does not show there is tried by itself. The last line is "N passed, M failed".

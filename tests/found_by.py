@@ -3,8 +3,8 @@
 A program takes half a minute to compile, so edits of one finder are planted in one, and each has to show in a place of its own.
 `found by:` names the finder, and the place if the finder has several:
 
-    the random run N, PART of CALL       the `answer`, `work`, `state` or `drops` of this call differs. Who writes an edit sees that
-                                         no other of its N shows there
+    the random run N, PART of CALL       the `answer`, `work`, `state` or `drops` of this call differs. No other edit of its N
+                                         shows there, as who writes it sees
     scripts/FILE.txt                     a call of this script has an answer that is not wanted
     the tests of half_tests              one fails
     coverage.py FUNCTION                 it has more blocks that no test enters than the list has

@@ -27,7 +27,7 @@ sys.path.append(str(RT.parent))
 import rtlib
 
 CRATES = tools.crates_of("halfmap", "half_laws")
-HALFMAP = tools.program("halfmap")
+HALFMAP, VERSION = tools.program("halfmap"), tools.said_by(["rt", "version"]).strip()
 NOT_PROVED = "This halfmap is not proved; make prove proves it.\n"
 HALF_STORE = "crates/half_store/out/rlib"
 
@@ -57,14 +57,14 @@ def stand_in(tree):
             (made / "rlib/stamp").write_text(stamp)
 
 
-def files(folder, pattern="*"):
+def files(folder):
     """Each folder, and each file with its bytes and its time."""
-    found = {it.relative_to(folder).as_posix(): it for it in sorted(folder.rglob(pattern))}
-    return {name: not it.is_dir() and (it.read_bytes(), it.stat().st_mtime_ns) for name, it in found.items()}
+    return {it: not it.is_dir() and (it.read_bytes(), it.stat().st_mtime_ns) for it in folder.rglob("*")}
 
 
 def proved(tree):
-    return {name: it for name, it in files(tree).items() if "/out/" in name and it}
+    """The same of the proved files of a tree."""
+    return {str(it.relative_to(tree)): both for it, both in files(tree / "crates").items() if both and "out" in it.parts}
 
 
 def with_entry(archive, name, data=b"", kind=tarfile.REGTYPE, link=""):
@@ -100,8 +100,7 @@ def pack(tree):
     stand_in(tree)
     first = said_in(tree, "git init -q && git add -A && make -s archive WITH=half_laws")
     version = re.search(r"^## (.*)", (tree / "CHANGELOG.md").read_text(), re.M)[1]
-    kit = tools.said_by(["rt", "version"]).split()[0].split("-")[-1]
-    yield first.split()[-1], f"out/halfbrown-{version}-{kit}.tar.gz"
+    yield first.split()[-1], f"out/halfbrown-{version}-{VERSION.split()[0].split('-')[-1]}.tar.gz"
     (tree / "Makefile").touch()
     yield said_in(tree, "make -s archive WITH=half_laws").split()[-2:], first.split()[-2:]
 
@@ -122,9 +121,8 @@ def refuse(tree, good, folder):
         (with_entry(good, f"{top}/{HALF_STORE}/more"), "out/rlib/more"),
         (with_entry(good, f"{top}/crates/halfmap/out/halfmap", b"#!/bin/sh\n"), "sum than in its list: crates/halfmap/out/"),
     ]
-    version = tools.said_by(["rt", "version"]).strip()
     cases = [(it, sum_of(it), "", None, why) for it, why in odd] + [(changed, sum_of(good), "", None, f"not {sum_of(good)}")]
-    cases += [(good, sum_of(good), f"{kit.parent}:", None, f"is of {version}, and here is rattle-kit-0 logic 0")]
+    cases += [(good, sum_of(good), f"{kit.parent}:", None, f"is of {VERSION}, and here is rattle-kit-0 logic 0")]
     for edited in ("crates/half_store/src/lib.rt", "crates/halfbrown/specs/More.antt", "Makefile"):
         cases.append((good, sum_of(good), "", tree / edited, edited))
     for archive, its_sum, path, edited, why in cases:
@@ -144,7 +142,7 @@ def unpack(tree, good, packed):
     yield {name: it[0] for name, it in found.items()}, {name: it[0] for name, it in packed.items()}
     yield said_in(tree, "make -s run"), "It is proved.\n"
     said = said_in(tree, "make -s prove || echo failed")
-    anew = [name for name, it in proved(tree).items() if it != found[name] and not name.endswith("halfmap.stamp")]
+    anew = [name for name, it in proved(tree).items() if it != found.get(name) and not name.endswith("halfmap.stamp")]
     yield (anew, "failed\n" in said), ([], False)
 
 
@@ -157,5 +155,5 @@ with tempfile.TemporaryDirectory() as folder:
     (unpacks / HALF_STORE).mkdir(parents=True)
     (unpacks / HALF_STORE / "older").touch()
     (unpacks / "out").mkdir()
-    checks += [*refuse(unpacks, shutil.copy(good, folder), folder), *unpack(unpacks, good, proved(packs))]
+    checks += [*refuse(unpacks, pathlib.Path(shutil.copy(good, folder)), folder), *unpack(unpacks, good, proved(packs))]
 tools.end([None if found == wanted else f"{wanted} is wanted, and this is found: {found}" for found, wanted in checks])
