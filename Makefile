@@ -50,7 +50,7 @@ scripts: out/covered/witness
 	@WITNESS=$(CURDIR)/$< tests/scripts.py $(WORD)
 
 witness: out/covered/witness
-	@WITNESS=$(CURDIR)/$< tests/witness.py $(or $(N),600) $(or $(SEED),1)
+	@WITNESS=$(CURDIR)/$< tests/random_run.py $(or $(N),600) $(or $(SEED),1)
 
 bench:
 	@tests/bench.py $(or $(ROUNDS),9) $(WORDS)

@@ -27,7 +27,7 @@ PARTS = [
     *(("tc", f"tests of {it}", None, f"tests/build_unproved.sh {it} out/covered/{it}_tests tests") for it in TESTED),
     ("tp", "must not compile", None, "tests/must_not_compile.py"),
     ("tp", "copied uses", None, "tests/copied_uses.py"),
-    ("tpc", "random run", "build of witness", "tests/witness.py"),
+    ("tpc", "random run", "build of witness", "tests/random_run.py"),
     ("tpc", "documentation", "build of halfmap", "tests/documentation.py"),
     ("tpc", "scripts", "build of witness", "tests/scripts.py"),
     ("tp", "halfmap", "proofs", "env -u HALFMAP tests/halfmap.py"),

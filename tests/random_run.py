@@ -1,7 +1,7 @@
 #!/usr/bin/env python3
 """Plays scripts of calls that are made at random on the program `witness`, and compares each line with the model's.
 
-    tests/witness.py [N] [SEED]    makes N scripts, 600 if not said, from a seed
+    tests/random_run.py [N] [SEED]    makes N scripts, 600 if not said, from a seed
 
 The scripts are in the language of docs/SCRIPTS.md. Besides each answer its work, its drops and its memory are compared;
 allocator.c refuses all requests of `refused` calls, or in some scripts one of each. If a script differs, lines are taken out as
