@@ -21,7 +21,7 @@ elif program=$unproved && fits $unproved $unproved tests/build_unproved.sh; then
     echo "This halfmap is not proved; make prove proves it." >&2
 else
     echo "No proved halfmap is up to date, so this one is built without proofs, in about 20 seconds;" \
-        "make prove proves it, in about $(tests/prove.sh minutes) minutes." >&2
+        "make prove proves it, in 5 to 9 minutes on 4 processors." >&2
     tests/build_unproved.sh halfmap $unproved
     case $? in
         0) ;;
