@@ -9,7 +9,7 @@ A program takes half a minute to compile, so edits of one finder are planted in 
     the tests of half_tests              one fails
     coverage.py FUNCTION                 it has more blocks that no test enters than the list has
     instructions.py ROW SIZE             the row takes more instructions than with nothing planted
-    sources.py                           a rule is broken in the edit's file
+    forbidden_code.py                    a rule is broken in the edit's file
 
 How a program ends, what it leaks, its requests for memory and its calls of closures do not count.
 """
@@ -70,8 +70,8 @@ def coverage_says(copy, edits):
     return "\n".join(re.findall(r"^.* never entered .*$", tools.said_by([copy / "tests/gate.sh", "covered"]), re.M))
 
 
-def sources_say(copy, edits):
-    return tools.said_by([copy / "tests/sources.py"])
+def forbidden_code_says(copy, edits):
+    return tools.said_by([copy / "tests/forbidden_code.py"])
 
 
 def count_says(copy, edits):
@@ -115,7 +115,7 @@ def random_run_says(copy, edits):
 
 
 FINDERS = {"the random run": random_run_says, "scripts/": script_says, "the tests of": tests_say, "coverage.py": coverage_says}
-FINDERS |= {"instructions.py": count_says, "sources.py": sources_say}
+FINDERS |= {"instructions.py": count_says, "forbidden_code.py": forbidden_code_says}
 
 
 def mark_of(edit):

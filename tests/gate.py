@@ -34,7 +34,7 @@ PARTS = [
     ("tc", "unproved halfmap", "build of halfmap", "tests/halfmap.py"),
     ("tp", "make", "build of halfmap", "tests/make.py"),
     *(("tpc", it, f"build of {it}", f"tests/programs.py {it}") for it in PROGRAMS[2:]),
-    ("tp", "sources", None, "tests/sources.py"),
+    ("tp", "forbidden code", None, "tests/forbidden_code.py"),
     # Its tests are built when all is proved.
     ("p", "refused reads", None, "tests/refused_reads.py"),
     ("a", "rt ci", None, "rt ci"),
