@@ -14,7 +14,7 @@
 # make fmt          lays out the files of every crate
 
 targets := help run prove test edits scripts witness bench instructions archive unpack fmt
-.PHONY: $(targets) answers
+.PHONY: $(targets)
 
 no_rt = $(error There is no rt on the path; it is in the folder bin of Rattle's kit)
 $(if $(filter-out help,$(MAKECMDGOALS)),$(if $(shell command -v rt 2>&1),,$(no_rt)))
@@ -33,13 +33,8 @@ endif
 help:
 	@sed -n '/^$$/q; s/^# //p' Makefile
 
-# Of a recipe that fails make says "Error 1". So run.sh leaves why it failed, and this says it.
-run: answers
-	$(if $(shell cat out/run.$$PPID 2>&-),$(error $(shell cat out/run.$$PPID; rm out/run.$$PPID)))
-
-answers:
-	@mkdir -p out && echo "halfmap did not run" >out/run.$$PPID
-	@tests/run.sh out/run.$$PPID || :
+run:
+	@tests/run.sh
 
 prove:
 	@tests/prove.sh
@@ -55,7 +50,7 @@ scripts: out/covered/witness
 	@WITNESS=$(CURDIR)/$< tests/scripts.py $(WORD)
 
 witness: out/covered/witness
-	@WITNESS=$(CURDIR)/$< tests/witness.py $(or $(N),600) $(or $(SEED),1)
+	@WITNESS=$(CURDIR)/$< tests/random_run.py $(or $(N),600) $(or $(SEED),1)
 
 bench:
 	@tests/bench.py $(or $(ROUNDS),9) $(WORDS)

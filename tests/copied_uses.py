@@ -4,7 +4,6 @@ copied, none names half_uses then, and its page has the files of each module. Th
 """
 
 import pathlib
-import subprocess
 import tempfile
 
 import tools
@@ -21,11 +20,9 @@ def copied(module, crate):
     """What is wrong with the copy of a module in a crate."""
     (crate / "src").mkdir(parents=True)
     (crate / "src/lib.rt").write_text("#![tactic(auto)]\n")
-    ran = subprocess.run([USES / "copy.sh", module, crate], capture_output=True, text=True)
-    files, lacks = (ran.stdout + "\n").split("\n")[:2]
-    yield ran.stderr or None
+    files, _, lacks = tools.said_by([USES / "copy.sh", module, crate]).partition("\n")
     yield None if f"\n    {files}\n" in (USES / "README.md").read_text() else f"README.md does not have: {files}"
-    yield None if lacks == f"crates.txt has to have: {crate.name}: halfbrown" else f"{module}: {lacks}"
+    yield None if lacks == f"crates.txt has to have: {crate.name}: halfbrown\n" else f"{module}: {lacks}"
     yield from (f"{crate.name}/{path} names half_uses" for path, text in files_of(crate).items() if "half_uses" in text)
 
 
@@ -42,6 +39,6 @@ with tempfile.TemporaryDirectory() as folder:
     with open(top / "crates.txt", "a") as lines:
         lines.writelines(f"{it.name}: halfbrown\n" for it in crates.values())
         print("user:", *(it.name for it in crates.values()), file=lines)
-    ran = subprocess.run(["rt", "try", "--test"], cwd=user, stdin=subprocess.DEVNULL, capture_output=True, text=True)
-told.append(ran.stdout + ran.stderr if ran.returncode else None)
+    said = tools.said_by(["rt", "try", "--test"], cwd=user)
+told.append(None if "test result: ok. 1 passed" in said else said)
 tools.end(told)

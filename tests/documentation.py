@@ -1,19 +1,13 @@
 #!/usr/bin/env python3
 """What the documentation names is there, and what it shows is proved or run. The last line is "N passed, M failed".
 
-- In the pages (*.md) a link leads to a file, and to a heading if it names one. Users copy the folders of crates, so no link
-  leads out of them. A path in backticks leads to a file or a folder, from anywhere in the tree: `map/find.rt` is in
-  crates/halfbrown/src. A name in backticks such as `counting::hash_one` is that of an item in a module, of a crate or of std.
-- The folders of crates that users copy (COPIED) have the licences of the top, and a page with the line of crates.txt.
-- README's first example stands in half_examples, where it is proved with its clause. halfmap, the program HALFMAP, answers its
-  lines as the page says.
-- The imports of CALLING, USING and PROOFS stand in the crates, and the lemmas in their modules. Fenced code stands in callers,
-  which are proved, and other code there or in examples. The caller that CALLING begins with compiles with its imports.
-- CALLING has its clauses, words and list of calls as they stand in the sources (calling.py). `tests/documentation.py --write`
-  prints them there anew.
-- docs/speed.svg shows the figures of SPEED, and docs/tail.svg those of TABLE. Some of these are computed.
-- The examples in the documentation of the map and of the set run, with nothing proved. Those of a page, `//!`, stand before
-  each that follows in the file, and those of the crate's page before all.
+    tests/documentation.py            runs the program HALFMAP, and the examples of the map and the set, with nothing proved
+    tests/documentation.py --write    prints the clauses, words and lists of CALLING anew, as they stand in the sources
+
+Users copy the folders of the crates of COPIED, so no link leads out of them. They have the licences, and a page with their line
+of crates.txt. A path in backticks leads to a file or a folder, from anywhere in the tree: `map/find.rt` is in
+crates/halfbrown/src. What CALLING, USING and PROOFS show stands in callers, which are proved, or, if it is no fenced code, in
+examples. docs/speed.svg shows the figures of SPEED, and docs/tail.svg those of TABLE, of which some are computed.
 """
 
 import os
@@ -24,7 +18,7 @@ import subprocess
 import sys
 import tempfile
 
-import calling
+import calling_page
 import picture
 import tools
 from tools import TOP
@@ -58,6 +52,7 @@ def code_of(module):
 
 
 def named(page, tree):
+    """The links, paths and names of a page, such as `counting::hash_one`, an item in a module, of a crate or of std."""
     prose = CODE.sub("", page.read_text())
     folder = next((it for it in page.parents if it.parent == TOP / "crates"), TOP)
     for link in LINK.findall(SPAN.sub("", prose)):
@@ -78,6 +73,7 @@ def named(page, tree):
 
 
 def readme(page):
+    """The first example, which is proved in half_examples with its clause, and what halfmap answers."""
     proved = re.search(r"^ghost use.*?^}\n", *texts("half_examples/src/first_example.rt"), re.M | re.S)[0]
     shown = [code for kind, code in FENCED.findall(page) if kind == "rust"]  # It is plain, and its clause is told below.
     contract = re.compile(r"^ghost use .*\n\n?|^    (ensures .*)\n", re.M)
@@ -132,7 +128,7 @@ def copied():
 
 
 def tests_of(path, tests, before):
-    """The examples of a file as tests, each on its own lines, and what stands before the last."""
+    """The examples of a file as tests, each on its own lines, and what stands before the last: those of `//!`."""
     text = path.read_text()
     for it in re.finditer(r"^ *//([/!]) ```\n(.*?)(?:^ *//\1 ```|\Z)", text, re.M | re.S):
         line = text.count("\n", 0, it.start())
@@ -156,22 +152,22 @@ def examples():
         files["lib"] = "#![tactic(auto)]\n" + "".join(f"#[cfg(test)]\nmod {name};\n" for name in files)
         for name, tests in files.items():
             (crate / f"src/{name}.rt").write_text(tests)
-        ran = subprocess.run(["rt", "try", "--test"], cwd=crate, stdin=subprocess.DEVNULL, capture_output=True, text=True)
-    print(ran.stdout + ran.stderr if ran.returncode else "", end="")
+        said = tools.said_by(["rt", "try", "--test"], cwd=crate)
+    print("" if "test result: ok" in said else said, end="")
     names = [f"{name}::{test}" for name, tests in files.items() for test in re.findall(r"fn (line_\d+)", tests)]
-    yield from ((f"the example {name}", f"test {name} ... ok\n" in ran.stdout) for name in names)
+    yield from ((f"the example {name}", f"test {name} ... ok\n" in said) for name in names)
 
 
 CALLING, USING, PROOFS = (TOP / f"crates/halfbrown/{it}.md" for it in ("CALLING", "USING", "PROOFS"))
 if sys.argv[1:] == ["--write"]:
-    sys.exit(not CALLING.write_text(calling.written(CALLING.read_text())))
-git = subprocess.run(["git", "ls-files", "-co", "--exclude-standard"], cwd=TOP, capture_output=True, text=True, check=True)
-files = [it for it in git.stdout.splitlines() if (TOP / it).exists()]
+    sys.exit(not CALLING.write_text(calling_page.written(CALLING.read_text())))
+git = tools.said_by(["git", "ls-files", "-co", "--exclude-standard"], cwd=TOP)
+files = [it for it in git.splitlines() if (TOP / it).exists()]
 tree = "\n".join(f"/{it}" for it in files)
 claims = [(f"{it}: {what}", stands) for it in files if it.endswith(".md") for what, stands in named(TOP / it, tree)]
 for shown in (imports, snippets, lemmas):
     claims += [it for page in (CALLING, USING, PROOFS) for it in shown(page.read_text())]
-claims += [*readme((TOP / "README.md").read_text()), *calling.claims(CALLING.read_text()), *copied(), *examples()]
+claims += [*readme((TOP / "README.md").read_text()), *calling_page.claims(CALLING.read_text()), *copied(), *examples()]
 claims += [(path.name, drawn == path.read_text()) for path, drawn in picture.pictures()]
 table = (TOP / "docs/TABLE.md").read_text()
 claims += [(row, f"{row}\n" in table) for load, _ in picture.LOADS.values() for row in picture.tail_rows(load)]

@@ -11,7 +11,6 @@ The last line is "N passed, M failed".
 import pathlib
 import re
 import shutil
-import subprocess
 import tempfile
 
 import tools
@@ -34,8 +33,7 @@ def compile_crate(bodies, crate):
         (crate / "src" / f"{name}.rt").write_text(MODULE.format(body))
     modules, calls = ("".join(text.format(it) for it in bodies) for text in ("mod {};\n", "    {}::main(&rt);\n"))
     (crate / "src/main.rt").write_text(f"#![tactic(auto)]\n\n{modules}\nfn main(rt: HostRuntime) {{\n{calls}}}\n")
-    ran = subprocess.run(["rt", "try", "--steps", "1"], cwd=crate, stdin=subprocess.DEVNULL, capture_output=True, text=True)
-    return ran.stdout + ran.stderr
+    return tools.said_by(["rt", "try", "--steps", "1"], cwd=crate)
 
 
 def judge(bodies, crate):

@@ -3,15 +3,11 @@
 #
 #   tests/prove.sh                     proves half_store, halfbrown and halfmap, and builds halfmap
 #   tests/prove.sh CRATE COMMAND ..    rt's command `lib`, `check` or `run` for each crate
-#   tests/prove.sh minutes             how long the first takes on as many processors, if nothing is proved
 set -u
 cd "$(dirname "$0")/../crates" || exit 1
 began=$(date +@%s.%N)
 jobs=$(nproc)
 [ "$jobs" -le 4 ] || jobs=4
-# On four processors it took 4.5 to 8 minutes, of 12 to 20 processor minutes; with one job 15, crate by crate.
-minutes=$((6 + 10 / jobs))
-[ "${1-}" != minutes ] || exec echo "$minutes"
 log=$(mktemp) || exit 1
 trap 'rm -f "$log"' EXIT
 trap 'exit 1' HUP INT TERM
@@ -30,7 +26,7 @@ prove() {
 }
 
 if [ ! -e halfbrown/out/rlib ]; then
-    echo "half_store, halfbrown and halfmap are proved in about $minutes minutes, and crates above them in some more." >&2
+    echo "half_store, halfbrown and halfmap are proved in 5 to 9 minutes on 4 processors (in 15 on one), others in some more." >&2
 fi
 [ $# -gt 0 ] || set -- half_store lib halfbrown lib halfmap run
 while [ $# -gt 0 ]; do prove "$1" "$2"; shift 2; done

@@ -1,13 +1,9 @@
 #!/bin/bash
 # Runs halfmap on standard input: the proved program if it is up to date, and otherwise one that is built with nothing proved.
-#
-#   tests/run.sh FILE    FILE, which is there, says why nothing ran; it then has what this run failed with, or is gone
 set -u
 cd "$(dirname "$0")/.." || exit 1
-why=$1
 proved=crates/halfmap/out/halfmap
 unproved=out/unproved/halfmap
-trap 'rm -f "$why"; exit 1' HUP INT TERM
 
 # fits PROGRAM STORED TOOL: whether the program is there, and neither its sources nor the tool have changed since the file
 # STORED was. The time of the change itself says that, since an older file that takes a newer one's place keeps its own time.
@@ -16,7 +12,7 @@ fits() {
     [ -x "$1" ] && [ -e "$2" ] && [ -z "$(find "${made_from[@]}" -cnewer "$2" -print -quit 2>&1)" ]
 }
 
-fails() { echo "$1" >"$why"; exit 1; }
+fails() { echo "$1" >&2; exit 1; }
 
 # rt stores the stamp only if the sources did not change while it proved them.
 if fits $proved $proved.stamp "$(realpath "$(command -v rt)")"; then
@@ -25,7 +21,7 @@ elif program=$unproved && fits $unproved $unproved tests/build_unproved.sh; then
     echo "This halfmap is not proved; make prove proves it." >&2
 else
     echo "No proved halfmap is up to date, so this one is built without proofs, in about 20 seconds;" \
-        "make prove proves it, in about $(tests/prove.sh minutes) minutes." >&2
+        "make prove proves it, in 5 to 9 minutes on 4 processors." >&2
     tests/build_unproved.sh halfmap $unproved
     case $? in
         0) ;;
@@ -37,8 +33,6 @@ fi
 # Only cat says that the reader of the answers went away, as head does: SIGPIPE ends it, and that is no failure.
 $program | cat
 statuses=("${PIPESTATUS[@]}")
-status=${statuses[0]}
-[ "$status" -ne 0 ] || status=${statuses[1]}
+status=$((statuses[0] ? statuses[0] : statuses[1]))
 [ "${statuses[1]}" -eq 141 ] || [ "$status" -eq 0 ] ||
     fails "halfmap ended with status $status (1: its input or output was closed, the disk was full, or it got no memory)"
-rm "$why"

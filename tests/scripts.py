@@ -44,11 +44,6 @@ class Call:
     wanted: list = dataclasses.field(default_factory=list)
 
 
-def refused(part):
-    """The indices of the calls of a part that are refused memory."""
-    return [index for index, call in enumerate(part) if call.text.split(" ")[0] == "refused"]
-
-
 def written_out(line):
     """The line in which `<3: 8n n+1>` stands for its words with 0, 1 and 2 for n: `0 1 8 2 16 3`."""
 
@@ -59,25 +54,17 @@ def written_out(line):
 
 
 def read_script(path):
-    """The parts of a script, each the calls from a first line up to the next one, and what is wrong in it."""
-    name = path.relative_to(tools.TESTS).as_posix()
-    parts, faults, call = [[]], [], None
-    for number, line in enumerate(map(written_out, path.read_bytes().decode().split("\n")), 1):
+    """The parts of a script, each the calls from a first line up to the next one."""
+    parts = []
+    for number, line in enumerate(map(written_out, path.read_text().split("\n")), 1):
         word, _, rest = line.partition(" ")
-        if line == "" or line.startswith("#"):
-            continue
-        if word not in ("=", "or"):
-            if word in LIMITS:
-                parts.append([])
-            call = Call(line, f"{name}:{number}")
-            parts[-1].append(call)
-        elif call is None or (word == "or") != bool(call.wanted) or (word == "or" and not refused(parts[-1])):
-            faults.append(f"{name}:{number}: no call stands above this wanted line: {line}")
-        else:
-            call.wanted.append(rest)
-    if not any(call.wanted for part in parts for call in part):
-        faults.append(f"{name}:1: no line is wanted")
-    return [part for part in parts if part], faults
+        if word in LIMITS:
+            parts.append([])
+        if word in ("=", "or"):
+            parts[-1][-1].wanted.append(rest)
+        elif word not in ("", "#"):
+            parts[-1].append(Call(line, f"{path.relative_to(tools.TESTS).as_posix()}:{number}"))
+    return parts
 
 
 def play(program, lines, refuse=ALL):
@@ -96,7 +83,8 @@ def play(program, lines, refuse=ALL):
 def plays_of(part, program):
     """What each play of a part is called, and what it printed. Of one refused call each request is refused in turn, then each
     two in a row, then all."""
-    lines, refusing = [call.text for call in part], refused(part)
+    lines = [call.text for call in part]
+    refusing = [index for index, line in enumerate(lines) if line.startswith("refused ")]
     plays = [("the program", play(program, lines))]
     if sum(map(len, lines)) < MOST_ON_THE_MODEL:
         plays.append(("the model", answers(lines)))
@@ -156,10 +144,10 @@ def main(words):
     paths = [path for path in known if not words or any(it in str(path.relative_to(tools.TESTS)) for it in words)]
     if not paths:
         sys.exit(f"no script has {' or '.join(words)} in its name: {' '.join(path.stem for path in known)}")
-    parts, faults = zip(*map(read_script, paths))
+    parts = sum(map(read_script, paths), [])
     with ThreadPoolExecutor(os.cpu_count()) as pool:
-        told = sum(pool.map(functools.partial(judge, tools.program("witness")), sum(parts, [])), [])
-    tools.end([it and it[:1000] for it in told + sum(faults, [])])
+        told = sum(pool.map(functools.partial(judge, tools.program("witness")), parts), [])
+    tools.end([it and it[:1000] for it in told])
 
 
 if __name__ == "__main__":

@@ -4,6 +4,7 @@ import os
 import pathlib
 import re
 import shutil
+import subprocess
 import sys
 
 TESTS = pathlib.Path(__file__).resolve().parent
@@ -27,16 +28,16 @@ def crates_of(*names):
     return {name: lines[name] for name in lines if name in found}
 
 
-def copy_sources(folder, crates, proved=False):
-    """Copies the tests and crates; with `proved` also the proofs, and links of out/, which rt replaces and never writes to."""
+def copy_sources(folder, crates, without=("out", "proofs")):
+    """Copies the tests and crates, but for these folders; out/ is copied as links, since rt replaces its files."""
     shutil.copytree(TESTS, folder / "tests", ignore=shutil.ignore_patterns("__pycache__"))
-    for name in ("HANDLES", "Makefile"):
+    for name in ("HANDLES", "Makefile", "CHANGELOG.md"):
         shutil.copy(TOP / name, folder)
     (folder / "crates.txt").write_text("".join(f"{name}:{below}\n" for name, below in crates.items()))
     for name in crates:
         crate, copy = TOP / "crates" / name, folder / "crates" / name
-        shutil.copytree(crate, copy, ignore=lambda at, _: {"out", "" if proved else "proofs"} if at == str(crate) else ())
-        if proved and (crate / "out").is_dir():
+        shutil.copytree(crate, copy, ignore=lambda at, _: {"out", *without} if at == str(crate) else ())
+        if "out" not in without and (crate / "out").is_dir():
             shutil.copytree(crate / "out", copy / "out", copy_function=os.link)
     return folder
 
@@ -48,6 +49,12 @@ def crate_above(folder, name, *below):
         lines.write(f"{name}: {' '.join(below)}\n")
     (crate / "src").mkdir(parents=True)
     return crate
+
+
+def said_by(command, **given):
+    """What a command prints, and then what is on its standard error."""
+    ran = subprocess.run(command, stdin=subprocess.DEVNULL, capture_output=True, text=True, errors="replace", **given)
+    return ran.stdout + ran.stderr
 
 
 def end(told):

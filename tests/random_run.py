@@ -1,7 +1,7 @@
 #!/usr/bin/env python3
 """Plays scripts of calls that are made at random on the program `witness`, and compares each line with the model's.
 
-    tests/witness.py [N] [SEED]    makes N scripts, 600 if not said, from a seed
+    tests/random_run.py [N] [SEED]    makes N scripts, 600 if not said, from a seed
 
 The scripts are in the language of docs/SCRIPTS.md. Besides each answer its work, its drops and its memory are compared;
 allocator.c refuses all requests of `refused` calls, or in some scripts one of each. If a script differs, lines are taken out as
@@ -21,10 +21,8 @@ from model.session import NO_LINE, answers
 from random_scripts import make_script
 from scripts import agrees, play
 
-SCRIPTS = 600
-# For this time a script that differs is made shorter, and this number of them is printed.
-SECONDS_TO_SHORTEN = 20
-MOST_SHOWN = 3
+# For this time a script that differs is made shorter.
+SECONDS_TO_SHORTEN = 2
 
 
 def differ(found, wanted):
@@ -46,8 +44,11 @@ def shortest(program, lines, refuse):
     return lines
 
 
-def report(program, index, script):
-    """A script that differs, made short, and both answers where they do."""
+def report(program, seed, index):
+    """What is left of the script of this index, and both answers where they differ; None if it does not."""
+    script = make_script(seed, index)
+    if not differ(play(program, script.lines, script.refuse), script.wanted):
+        return None
     of_each = "" if script.refuse == ALL else f", request {script.refuse[0]} refused"
     lines, told = shortest(program, script.lines, script.refuse), [f"script {index}{of_each}, made short:"]
     both = play(program, lines, script.refuse), answers(lines, script.refuse)
@@ -58,21 +59,11 @@ def report(program, index, script):
     return "\n".join(told)
 
 
-def is_other(program, seed, index):
-    """Whether the script of this index differs."""
-    script = make_script(seed, index)
-    return differ(play(program, script.lines, script.refuse), script.wanted)
-
-
-def main(count=SCRIPTS, seed=1):
-    began, program = time.monotonic(), tools.program("witness")
+def main(count=600, seed=1):
+    began = time.monotonic()
     with ProcessPoolExecutor(os.cpu_count()) as pool:
-        differing = [*pool.map(functools.partial(is_other, program, seed), range(int(count)))]
+        told = [*pool.map(functools.partial(report, tools.program("witness"), seed), range(int(count)))]
     print(f"{count} scripts of seed {seed} in {time.monotonic() - began:.1f} s")
-    told = [f"script {index} differs" if it else None for index, it in enumerate(differing)]
-    # The first ones are long.
-    for index in [index for index, it in enumerate(told) if it][-MOST_SHOWN:]:
-        told[index] = report(program, index, make_script(seed, index))
     tools.end(told)
 
 

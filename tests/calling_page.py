@@ -49,7 +49,7 @@ def in_full(line, name, known):
 
 
 def definitions():
-    """The words of the specs, and of the store's on capacity, by name: what each line of them says. The values: their comments."""
+    """The words of the specs, and of the store's on capacity, by name: what each line says. The values: their comments."""
     words, values = {}, {}
     for path in SPECS:
         found = {it[4]: it for it in DEFINITION.finditer(path.read_text())}
@@ -64,7 +64,8 @@ def definitions():
                 words[name] = heads + [field for field in fields if not LEFT_OUT.match(field)]
             elif comment and lines:
                 own = re.match(rf"{name}((?: [\w']+)*) =", lines[0])
-                values[name] = f"{head}{own[1] if own else ''}: " + " ".join(line.strip(" -").replace("`", "") for line in comment.splitlines())
+                said = " ".join(line.strip(" -").replace("`", "") for line in comment.splitlines())
+                values[name] = f"{head}{own[1] if own else ''}: {said}"
     return {name: lines for name, lines in words.items() if name not in NOT_OPENED}, values
 
 

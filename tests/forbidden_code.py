@@ -22,7 +22,8 @@ RULES = (
      r"fn (?!(?:from_iter|run)_counted)\w+_counted\b(?:<(?:[^()]|\([^()]*\))*?>)?\((?! ?&?(?:mut )?self\b)", ()),
     ("`uncounted!` lends its spare tally to one of these functions, which does what no clause counts.",
      r"uncounted!\((?!(?:table\.(?:bucket_of\(index|(?:shift_)?remove_at\(found\.index, found\.bucket|add\(hash)"
-     r"|first_empty\(buckets, &hashes\[\.\.index\], hashes\[index\]|LimitedHashMap::collect\(alloc, N, pairs\.into_iter\(\))\)\))", ()),
+     r"|first_empty\(buckets, &hashes\[\.\.index\], hashes\[index\]"
+     r"|LimitedHashMap::collect\(alloc, N, pairs\.into_iter\(\))\)\))", ()),
     ("Only `hash_one` builds a hasher.", r"(?:\.|::)(?:hash(?:_slice)?\(|build_hasher\b)|::hash\b", ()),
     ("Only `compare` calls what compares keys.", r"\b(?:matches|is_match)\)?\(", ("half_store/src/counting",)),
 )
