@@ -12,7 +12,6 @@ use Rattle.half_mean.specs.Mean.{sum_lists, filling_cases, MeanIsAtMost}
 use Rattle.halfbrown.specs.Costs.{IsSearchCost, hit_reads, filling_reads}
 use Rattle.halfbrown.specs.State.{State, IsValid}
 use Rattle.half_laws.specs.MapLaws.{HoldSamePairs}
-use Rattle.half_laws.specs.MeanLaws.{InHalfFullTables, InTables}
 
 module _ {K : Type 0} (V : Type 0) {S : Type 0} (hash : S → K → ℕ) where
   -- in a table a search that finds the pair at this index, by any query for its key, reads as many buckets each time
@@ -49,9 +48,3 @@ total_hits hashes capacity held = sum_lists hashes held (λ list. filling_reads_
 -- the mean over these cases and their pairs is at most `over / under`
 abbrev pub MeanHitIsAtMost : (over under hashes capacity held : ℕ) → Type 0
 MeanHitIsAtMost over under hashes capacity held = MeanIsAtMost (total_hits hashes capacity held) (filling_cases hashes held) over under
-
-abbrev pub HalfFullHitLaw : (over under : ℕ) → Type 0
-HalfFullHitLaw over under = InHalfFullTables (MeanHitIsAtMost over under)
-
-abbrev pub CapacityHitLaw : (over under : ℕ) → Type 0
-CapacityHitLaw over under = InTables (MeanHitIsAtMost over under)

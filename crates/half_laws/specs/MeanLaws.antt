@@ -44,9 +44,3 @@ InTables Law = (bits capacity held : ℕ) → IsTableCapacity capacity → 0 < c
 -- the mean of a miss is at most `over / under`
 abbrev pub MeanMissIsAtMost : (over under hashes capacity held : ℕ) → Type 0
 MeanMissIsAtMost over under hashes capacity held = MeanIsAtMost (total_misses hashes capacity held) (reach_cases hashes held) over under
-
-abbrev pub HalfFullMissLaw : (over under : ℕ) → Type 0
-HalfFullMissLaw over under = InHalfFullTables (MeanMissIsAtMost over under)
-
-abbrev pub CapacityMissLaw : (over under : ℕ) → Type 0
-CapacityMissLaw over under = InTables (MeanMissIsAtMost over under)

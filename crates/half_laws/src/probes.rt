@@ -1,4 +1,6 @@
 //! What holds of `reach` for every list of held hashes. These functions do nothing: the laws are their contracts.
+#![tactic(auto, using(crate::proofs::lemmas::probes::probe_laws))]
+
 ghost use Rattle.half_laws.specs.ProbeLaws.{ReachHistoryLaw, NoBucketsLaw, NothingHeldLaw, OneBucketLaw, SharedHomeLaw};
 ghost use Rattle.half_laws.specs.ProbeLaws.{ShortLaw, OnceRoundLaw, StopsLaw, CrowdingLaw};
 

@@ -18,6 +18,7 @@ pub fn cases_of_the_means()
 /// `1 + 2 * n / m + 3 * n * (n - 1) / m^2 + ..`. Then a probe that finds nothing in a table of `m` buckets with `n` pairs
 /// reads `(1 + Q) / 2` buckets on average. That is at most `(1 + (m / (m - n))^2) / 2`: 2.5 if half of the buckets are
 /// full, and 8.5 if the table has no capacity left.
+#[tactic(auto, using(crate::proofs::lemmas::Means::mean_laws))]
 pub fn mean_of_a_probe()
     ensures exact { ExactMeanLaw (λ k. k + 1) }
     ensures recursion { KnuthRecursionLaw (λ k. k + 1) }
@@ -30,6 +31,7 @@ pub fn mean_of_a_probe()
 /// If all lists of hashes are equally likely, the insertions that put `n` pairs into an empty table of `m` buckets read at
 /// most `(1 + m / (m - n)) / 2` buckets each on average. That is 1.5 up to half of the buckets, and 2.5 up to the
 /// capacity.
+#[tactic(auto, using(crate::proofs::lemmas::Filling::filling_laws))]
 pub fn mean_of_a_filling()
     ensures bound { MeanFillingLaw }
     ensures half_full { HalfFullFillingLaw 3 2 }
@@ -40,6 +42,7 @@ pub fn mean_of_a_filling()
 /// one bucket in `k` be empty, and let `D` be `k * (2 * k - 1)`: 6 up to the half of a table, and 28 up to its capacity. Then
 /// more than `d` buckets are read in at most the part `(1 - 1 / D)^d` of all cases. So more than `4 * s` up to the half, or
 /// `20 * s` up to the capacity, are read in at most one of `2^s` cases.
+#[tactic(auto, using(crate::proofs::lemmas::TailLaws::tail_laws))]
 pub fn tail_of_a_probe()
     ensures bound { TailLaw }
     ensures half_full { UpToHalf (LongProbesAreRare 4) }
@@ -49,6 +52,7 @@ pub fn tail_of_a_probe()
 /// Few tables have a long probe: the bound is that of one probe times the number of buckets. In a table of `2^b` buckets no
 /// probe reads more than `4 * (b + s)` up to the half, or `20 * (b + s)` up to the capacity. At most one of `2^s` lists is an
 /// exception.
+#[tactic(auto, using(crate::proofs::lemmas::TailLaws::tail_laws))]
 pub fn longest_probe_of_a_table()
     ensures bound { LongestLaw (λ buckets. buckets) }
     ensures half_full { UpToHalf (LongTablesAreRare 4) }
@@ -57,6 +61,7 @@ pub fn longest_probe_of_a_table()
 
 /// These are the least of all halves that hold: 2.5 and 8.5 of a probe, and 1.5 and 2.5 of a filling. Probes of tables of 16
 /// and 512 buckets break smaller ones, and fillings of 4 and 64.
+#[tactic(auto, using(crate::proofs::lemmas::Least::least_laws))]
 pub fn bounds_are_least()
     ensures half_full { IsLeastOver HalfFullMeanLaw 5 2 }
     ensures within_capacity { IsLeastOver CapacityMeanLaw 17 2 }

@@ -1,8 +1,9 @@
 -- A line that is too long for a request is answered as its first bytes are.
-use Rattle.std.proofs.Common.{◌≡◌, ◌≢◌, ℕ, ◌+◌, ◌≤◌, ◌<◌, true, false, Bool, eqb, eqb-true, eq-eqb, List, [], ◌∷◌, ◌++◌, length, refl, ap}
-use Rattle.std.proofs.Common.{subst, inl, inr, ◌⊎◌, arith, length-append, length-take-le, take_all}
+use Rattle.std.proofs.Common.{◌≡◌, ℕ, ◌+◌, ◌≤◌, List, [], ◌∷◌, ◌++◌, length, refl, ap}
+use Rattle.std.proofs.Common.{subst, inl, inr, arith, length-append, length-take-le, take_all}
 use Rattle.std.specs.Prelude.{codes}
-use Rattle.std.proofs.lemmas.Bool.{cases_lt}
+use Rattle.std.proofs.lemmas.Bool.{cases_lt, cases_eq}
+use Rattle.std.proofs.lemmas.List.{same_from_push}
 use Rattle.halfbrown.specs.State.{State}
 use Rattle.halfmap.specs.Answer.{AnswersLine}
 use Rattle.halfmap.specs.Line.{IsWithout, IsTextOfLine}
@@ -37,29 +38,23 @@ no_request : (line text : List ℕ) → 46 ≤ length line → IsTextOfLine line
 no_request line text long w request r = omega (arith, text_len line text w, request_len request text r)
 
 -- each line has a text
-without_more : (b x : ℕ) (xs : List ℕ) → (text : List ℕ) × IsWithout (b ∷ []) xs text → (text : List ℕ) × IsWithout (b ∷ []) (x ∷ xs) text
-without_more b x xs (text, inl e) = (x ∷ text, inl (ap (λ l. x ∷ l) e))
-without_more b x [] (text, inr h) = at (eqb x b) refl
-  where
-    one : (front : List ℕ) → (eqb x b ≡ false) → (x ∷ []) ≢ front ++ b ∷ []
-    one [] is_false e =
-        let same : x ≡ b = cc in
-        let is_true = eq-eqb x b same in
-        cc
-    one (y ∷ front) is_false e = omega (arith, ap length e, length-append front (b ∷ []))
-
-    at : (t : Bool) → eqb x b ≡ t → (text : List ℕ) × IsWithout (b ∷ []) (x ∷ []) text
-    at true e = ([], inl (ap (λ y. y ∷ []) (eqb-true x b e)))
-    at false e = (x ∷ [], inr (refl, λ front. one front e))
-without_more b x (y ∷ ys) (text, inr h) = (x ∷ y ∷ ys, inr (refl, no))
-  where
-    no : (front : List ℕ) → (x ∷ y ∷ ys) ≢ front ++ b ∷ []
-    no [] e = omega (arith, ap length e)
-    no (z ∷ front) e = h.1 front cc
+ends_later : (b x y : ℕ) (ys front : List ℕ) → x ∷ y ∷ ys ≡ front ++ b ∷ [] → (later : List ℕ) × (y ∷ ys ≡ later ++ b ∷ [])
+ends_later b x y ys [] e = absurd cc
+ends_later b x y ys (z ∷ front) e = (front, cc)
 
 without_byte : (b : ℕ) (line : List ℕ) → (text : List ℕ) × IsWithout (b ∷ []) line text
 without_byte b [] = ([], inr (refl, λ front e. omega (arith, ap length e, length-append front (b ∷ []))))
-without_byte b (x ∷ xs) = without_more b x xs (without_byte b xs)
+without_byte b (x ∷ []) =
+    elim (cases_eq x b) [
+      | inl e ↦ ([], inl (ap (λ y. y ∷ []) e))
+      | inr ne ↦ (x ∷ [], inr (refl, λ front e. ne (same_from_push [] front x b e).1))
+    ]
+without_byte b (x ∷ y ∷ ys) =
+    let rest = without_byte b (y ∷ ys) in
+    elim rest.1 [
+      | inl e ↦ (x ∷ rest.0, inl (ap (λ l. x ∷ l) e))
+      | inr h ↦ (x ∷ y ∷ ys, inr (refl, λ front e. let later = ends_later b x y ys front e in h.1 later.0 later.1))
+    ]
 
 text_of_line : (line : List ℕ) → (text : List ℕ) × IsTextOfLine line text
 text_of_line line =
@@ -78,8 +73,8 @@ module _ {S : Type 0} (line : List ℕ) (old : State ℕ ℕ S) (answer : Answer
 
   -- what answers the bytes that are kept of a line answers the line
   pub answers_line : AnswersLine (kept line) old answer new → AnswersLine line old answer new
-  answers_line a = by_length (cases_lt (length line) 46)
-    where
-      by_length : (length line < 46) ⊎ (46 ≤ length line) → AnswersLine line old answer new
-      by_length (inr long) = answers_long long a
-      by_length (inl short) = subst (λ (l : List ℕ). AnswersLine l old answer new) (take_all 46 line (omega arith)) a
+  answers_line a =
+      elim (cases_lt (length line) 46) [
+        | inl short ↦ subst (λ (l : List ℕ). AnswersLine l old answer new) (take_all 46 line (omega arith)) a
+        | inr long ↦ answers_long long a
+      ]

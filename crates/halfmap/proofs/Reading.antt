@@ -1,6 +1,7 @@
 -- Reading a line part by part.
-use Rattle.std.proofs.Common.{◌≡◌, ◌≢◌, ℕ, zero, suc, ◌-◌, ◌≤◌, Bool, true, false, List, [], ◌∷◌, ◌++◌, All, Result, Ok, Err, IfSome}
+use Rattle.std.proofs.Common.{◌≡◌, ◌≢◌, ℕ, zero, suc, ◌-◌, ◌≤◌, Bool, true, List, [], ◌∷◌, ◌++◌, All, Result, Ok, Err, IfSome}
 use Rattle.std.proofs.Common.{length, take, refl, sym, ap, ◌∙◌, arith, append-nil, length-take-le}
+use Rattle.std.proofs.Math.Seq.{take-nil}
 use Rattle.std.specs.Prelude.{Option, IsErr, OnErr}
 use Rattle.std.specs.Io.{StartsWith}
 use Rattle.std.specs.Io.BufRead.{DropsConsumable}
@@ -8,6 +9,7 @@ use Rattle.std.specs.Io.KnownBytes.{Keeps, Consumes}
 use Rattle.std.proofs.KnownBytes.{Consumes-nil, Consumes-kept, Consumes-trans}
 use Rattle.std.proofs.BufReadLemmas.{Consumes_shown, Consumes_through, zero_unless_positive}
 use Rattle.std.proofs.Transfers.{StopsAt-append}
+use Rattle.std.proofs.lemmas.Grind.{common_steps}
 use Rattle.std.proofs.lemmas.List.Elements.{All-nil, All-append}
 use Rattle.halfmap.specs.declared.lines.TheConstants.{KEPT_BYTES}
 use Rattle.halfmap.specs.Reading.{kept, with_more, IsPartOfLine, ReadsPart, ReadsLine}
@@ -22,23 +24,9 @@ reads_nothing old new r keeps more = record {
   at_end = λ done. absurd (more done);
 }
 
-adds_nothing : (n : ℕ) (xs : List ℕ) → xs ≡ xs ++ take (n - length xs) []
-adds_nothing n xs = at (n - length xs)
-  where
-    at : (m : ℕ) → xs ≡ xs ++ take m []
-    at zero = sym (append-nil xs)
-    at (suc m) = sym (append-nil xs)
-
 -- nothing was kept either
 pub keeps_nothing : (n : ℕ) (old new : List ℕ) → new ≡ old → new ≡ old ++ take (n - length old) []
-keeps_nothing n old new e = e ∙ adds_nothing n old
-
-same_flag : {E : Type 0} (b : Bool) (r : Result Bool E) → r ≡ Ok b → r ≡ Ok true → b ≡ true
-same_flag b r e f = cc
-
-other_flag : {E : Type 0} (b : Bool) (r : Result Bool E) → r ≡ Ok b → r ≢ Ok true → b ≡ false
-other_flag true r e h = absurd (h e)
-other_flag false r e h = refl
+keeps_nothing n old new e = e ∙ sym (ap (λ l. old ++ l) (take-nil (n - length old)) ∙ append-nil old)
 
 pub no_flag : {E : Type 0} (r : Result Bool E) → IsErr r → r ≢ Ok true
 no_flag (Ok b) h e = cc
@@ -55,20 +43,16 @@ reads_shown old rested new buffered shown n ended r e is front end keeps fits dr
     record {
       consumed = moved.0;
       stops = is.stops;
-      goes_on = λ more. is.goes_on (other_flag ended r e more);
-      ends = λ done. is.ends (same_flag ended r e done);
+      goes_on = λ more. is.goes_on (grind (arith, common_steps));
+      ends = λ done. is.ends (cc);
       at_end = λ _ none. moved.1 (zero_unless_positive (length shown) n is.some (sym (length-take-le n shown is.within) ∙ none));
     }
 
 -- what is kept of two parts, one after the other
 take_more : (n : ℕ) (xs ys : List ℕ) → take n xs ++ take (n - length (take n xs)) ys ≡ take n (xs ++ ys)
 take_more zero xs ys = refl
-take_more (suc n) [] ys =
-    let whole : suc n - 0 ≡ suc n = omega arith in
-    ap (λ k. take k ys) whole
-take_more (suc n) (x ∷ xs) ys =
-    let left : suc n - length (x ∷ take n xs) ≡ n - length (take n xs) = omega arith in
-    ap (λ k. x ∷ (take n xs ++ take k ys)) left ∙ ap (λ l. x ∷ l) (take_more n xs ys)
+take_more (suc n) [] ys = grind (arith, common_steps)
+take_more (suc n) (x ∷ xs) ys = grind (arith, common_steps, take_more n xs ys)
 
 pub kept_more : (taken part old new : List ℕ) → old ≡ kept taken → new ≡ with_more old part → new ≡ kept (taken ++ part)
 kept_more taken part old new e f = f ∙ ap (λ l. l ++ take (KEPT_BYTES - length l) part) e ∙ take_more KEPT_BYTES taken part

@@ -1,30 +1,24 @@
 -- A session, line by line.
-use Rattle.std.proofs.Common.{◌≡◌, ℕ, ◌<◌, Bool, true, false, cond, eqb, List, [], ◌∷◌, ◌++◌, length, refl, sym, ap, subst, ◌∙◌, arith}
+use Rattle.std.proofs.Common.{◌≡◌, ℕ, ◌<◌, Bool, true, false, List, [], ◌∷◌, ◌++◌, length, refl, sym, ap, subst, ◌∙◌, arith}
 use Rattle.std.proofs.Common.{append_assoc, append-nil, length-take, Some, None, IfSome}
 use Rattle.std.specs.Prelude.{Option, IsTrue, ◌↔◌}
 use Rattle.std.specs.Io.BufRead.{take_through, drop_through}
 use Rattle.std.specs.Io.KnownBytes.{Keeps, Appends}
 use Rattle.std.proofs.KnownBytes.{Appends-nil, Appends-kept, Appends-trans}
 use Rattle.std.proofs.BufReadLemmas.{take_through-nil}
-use Rattle.std.proofs.lemmas.Grind.{flat_map-append}
+use Rattle.std.proofs.lemmas.Grind.{common_steps, flat_map-append}
 use Rattle.halfbrown.specs.State.{State}
 use Rattle.halfmap.specs.Answer.{AnswersLine}
 use Rattle.halfmap.specs.Reading.{kept, ReadsLine}
-use Rattle.halfmap.specs.Session.{in_front, lines_of, Session, Serves, ServesFromEmpty}
+use Rattle.halfmap.specs.Session.{lines_of, Session, Serves, ServesFromEmpty}
 use Rattle.halfmap.specs.Text.{line_of, output_of}
 use Rattle.halfmap.specs.declared.answer.Answer.{Answer}
 use Rattle.halfmap.specs.declared.lines.TheConstants.{KEPT_BYTES}
 
 -- the first line of a text, and the others
-next_by : (b : Bool) (x : ℕ) (xs : List ℕ) → in_front x (lines_of xs) ≡ (x ∷ take_through 10 xs) ∷ lines_of (drop_through 10 xs)
-    → cond b ((x ∷ []) ∷ lines_of xs) (in_front x (lines_of xs))
-    ≡ cond b (x ∷ []) (x ∷ take_through 10 xs) ∷ lines_of (cond b xs (drop_through 10 xs))
-next_by true x xs e = refl
-next_by false x xs e = e
-
 lines_next : (x : ℕ) (xs : List ℕ) → lines_of (x ∷ xs) ≡ take_through 10 (x ∷ xs) ∷ lines_of (drop_through 10 (x ∷ xs))
-lines_next x [] = next_by (eqb x 10) x [] refl
-lines_next x (y ∷ ys) = next_by (eqb x 10) x (y ∷ ys) (ap (in_front x) (lines_next y ys))
+lines_next x [] = grind (arith, common_steps)
+lines_next x (y ∷ ys) = grind (arith, common_steps, lines_next y ys)
 
 first_line : (text line : List ℕ) → 0 < length line → line ≡ take_through 10 text → lines_of text ≡ line ∷ lines_of (drop_through 10 text)
 first_line [] line some e = absurd (omega (arith, ap length e))
@@ -36,9 +30,8 @@ module _ {S : Type 0} where
       → Session lines old answers middle → AnswersLine line middle answer new
       → Session (lines ++ line ∷ []) old (answers ++ answer ∷ []) new
   session_more [] [] line answer old middle new e a = (new, subst (λ m. AnswersLine line m answer new) e a, refl)
-  session_more [] (x ∷ xs) line answer old middle new e a = absurd e
-  session_more (l ∷ ls) [] line answer old middle new e a = absurd e
   session_more (l ∷ ls) (x ∷ xs) line answer old middle new s a = (s.0, s.1, session_more ls xs line answer s.0 middle new s.2 a)
+  session_more ls xs line answer old middle new e a = absurd e
 
 output_more : (answers : List Answer) (answer : Answer) → output_of answers ++ line_of answer ≡ output_of (answers ++ answer ∷ [])
 output_more answers answer =

@@ -1,13 +1,12 @@
 -- What decides the equality of maps, and what the searches of a comparison cost together.
 use Rattle.std.proofs.Common.{◌≡◌, ℕ, ◌≤◌, Bool, true, false, cond, List, [], ◌∷◌, length, is_some, refl, sym, ap, ◌∙◌}
-use Rattle.std.proofs.Common.{arith, ◌+◌, ◌-◌, ◌*◌, ◌==◌, subst}
+use Rattle.std.proofs.Common.{arith, ◌+◌, ◌-◌, ◌*◌, subst}
 use Rattle.std.proofs.lemmas.Grind.{common_steps}
 use Rattle.std.specs.Bool.{one_answer}
 use Rattle.std.specs.Cmp.{IsEquivalence}
 use Rattle.std.specs.List.{IsDistinct, list_all}
 use Rattle.std.specs.Map.{keys_of}
 use Rattle.std.specs.Option.{option_eq}
-use Rattle.std.proofs.lemmas.Bool.{and_parts}
 use Rattle.std.proofs.lemmas.List.Sums.{count_by-le-length}
 use Rattle.std.proofs.lemmas.Map.Entries.{length-keys_of}
 use Rattle.halfbrown.specs.Equality.{same_pairs, holds_equal_pair, keys_while_same, searched_keys, same_pairs-Decides}
@@ -16,10 +15,9 @@ use Rattle.halfbrown.proofs.lemmas.map.Equality.{same_pairs-by_pairs, all_search
 use Rattle.halfbrown.specs.Pairs.{value_of}
 use Rattle.halfbrown.proofs.callers.Pairs.{lookup_permuted}
 use Rattle.std.proofs.Math.Nat.{mul-le-mul_left}
-use Rattle.half_store.specs.PairLists.{index_of}
 use Rattle.half_store.specs.Work.{Work}
-use Rattle.halfbrown.specs.CostRanges.{Range, between, exactly}
-use Rattle.halfbrown.specs.Costs.{keys_of_hash, miss_reads, search_asked, IsKeySearchCost, AreSearchCosts}
+use Rattle.halfbrown.specs.CostRanges.{between, exactly}
+use Rattle.halfbrown.specs.Costs.{keys_of_hash, search_asked, IsKeySearchCost, AreSearchCosts}
 use Rattle.halfbrown.specs.State.{State}
 
 module _ {K V : Type 0} (eq : K → K → Bool) (value_eq : V → V → Bool) (laws : IsEquivalence eq) where
@@ -44,9 +42,6 @@ compares_most is_vec held in_order keys_of_hash most table = grind (arith, commo
 looks_most : (is_vec held : Bool) (probe : ℕ) → (cond is_vec (exactly 0) (cond held (between 1 (probe - 1)) (exactly probe))).greatest ≤ probe
 looks_most is_vec held probe = grind (arith, common_steps)
 
-looks_none : (is_vec : Bool) (searched : Range) → is_vec ≡ true → (cond is_vec (exactly 0) searched).greatest ≡ 0
-looks_none is_vec searched vector = ap (λ b. (cond b (exactly 0) searched).greatest) vector
-
 module _ {K V S : Type 0} (eq : K → K → Bool) (hash : S → K → ℕ) (m : State K V S) where
   none_cost : (before after : Work) → AreSearchCosts eq hash m [] before after → after ≡ before
   unfolding AreSearchCosts
@@ -58,63 +53,37 @@ module _ {K V S : Type 0} (eq : K → K → Bool) (hash : S → K → ℕ) (m : 
   one_looks : (k : K) (before after : Work) → IsKeySearchCost eq hash m k before after → after.looked ≤ before.looked + (length m.pairs + 1)
   one_looks k before after costs = grind (arith, common_steps)
 
-  asked_together : (ks : List K) (before after : Work) → AreSearchCosts eq hash m ks before after
-      → after.asked ≡ before.asked + search_asked m.is_vec * length ks
+  -- what searches cost one after another; in a vector no bucket is read
+  together : (ks : List K) (before after : Work) → AreSearchCosts eq hash m ks before after
+      → (after.asked ≡ before.asked + search_asked m.is_vec * length ks)
+      × (after.compared ≤ before.compared + length ks * length m.pairs)
+      × (after.looked ≤ before.looked + length ks * (length m.pairs + 1))
+      × (m.is_vec ≡ true → after.looked ≡ before.looked)
   unfolding AreSearchCosts
-  asked_together [] before after costs = omega (arith, ap (λ w. w.asked) costs)
-  asked_together (k ∷ ks) before after costs =
-      omega (arith, costs.1.grew.asked, asked_together ks costs.0 after costs.2)
-
-  compared_together : (ks : List K) (before after : Work) → AreSearchCosts eq hash m ks before after
-      → after.compared ≤ before.compared + length ks * length m.pairs
-  unfolding AreSearchCosts
-  compared_together [] before after costs = omega (arith, ap (λ w. w.compared) costs)
-  compared_together (k ∷ ks) before after costs =
-      omega (arith, one_compares k before costs.0 costs.1, compared_together ks costs.0 after costs.2)
-
-  looked_together : (ks : List K) (before after : Work) → AreSearchCosts eq hash m ks before after
-      → after.looked ≤ before.looked + length ks * (length m.pairs + 1)
-  unfolding AreSearchCosts
-  looked_together [] before after costs = omega (arith, ap (λ w. w.looked) costs)
-  looked_together (k ∷ ks) before after costs =
-      omega (arith, one_looks k before costs.0 costs.1, looked_together ks costs.0 after costs.2)
-
-  -- in a vector no bucket is read
-  looked_in_vector : m.is_vec ≡ true → (ks : List K) (before after : Work) → AreSearchCosts eq hash m ks before after
-      → after.looked ≡ before.looked
-  unfolding AreSearchCosts
-  looked_in_vector vector [] before after costs = ap (λ w. w.looked) costs
-  looked_in_vector vector (k ∷ ks) before after costs =
-      let probe = miss_reads (hash m.builder) m.is_vec m.capacity m.pairs (hash m.builder k) in
-      let none = looks_none m.is_vec (cond (is_some (index_of (eq k) (keys_of m.pairs))) (between 1 (probe - 1)) (exactly probe)) vector in
-      omega (arith, costs.1.grew.looked.at_least, costs.1.grew.looked.at_most, none, looked_in_vector vector ks costs.0 after costs.2)
+  together [] before after costs = rw costs (omega arith, omega arith, omega arith, λ vector. refl)
+  together (k ∷ ks) before after costs =
+      let rest = together ks costs.0 after costs.2 in
+      let looked = costs.1.grew.looked in (
+        omega (arith, costs.1.grew.asked, rest.0),
+        omega (arith, one_compares k before costs.0 costs.1, rest.1),
+        omega (arith, one_looks k before costs.0 costs.1, rest.2),
+        λ vector. let later = rest.3 vector in grind (arith, common_steps),
+      )
 
 module _ {K V : Type 0} (eq : K → K → Bool) (value_eq : V → V → Bool) where
-  shorter_by : (held : Bool) (ks : List K) (n : ℕ) → length ks ≤ n → length (cond held ks []) ≤ n
-  shorter_by true ks n most = most
-  shorter_by false ks n most = omega arith
-
   -- at most one search for each left pair
   length_searched : (left right : List (K × V)) → length (keys_while_same eq value_eq left right) ≤ length left
   length_searched [] right = omega arith
-  length_searched (p ∷ left) right =
-      omega (
-        arith,
-        shorter_by (holds_equal_pair eq value_eq right p) (keys_while_same eq value_eq left right) (length left)
-            (length_searched left right),
-      )
+  length_searched (p ∷ left) right = grind (arith, common_steps, length_searched left right)
 
   searched_most : (left right : List (K × V)) → length (searched_keys eq value_eq left right) ≤ length left
-  searched_most left right =
-      shorter_by (length left == length right) (keys_while_same eq value_eq left right) (length left) (length_searched left right)
+  searched_most left right = grind (arith, common_steps, length_searched)
 
   -- one for each, if all are held
   length_all : (left right : List (K × V)) → list_all (holds_equal_pair eq value_eq right) left ≡ true
       → length (keys_while_same eq value_eq left right) ≡ length left
   length_all [] right all = refl
-  length_all (p ∷ left) right all =
-      let both = and_parts (holds_equal_pair eq value_eq right p) (list_all (holds_equal_pair eq value_eq right) left) all in
-      omega (arith, ap (λ b. length (cond b (keys_while_same eq value_eq left right) [])) both.0, length_all left right both.1)
+  length_all (p ∷ left) right all = grind (arith, common_steps, length_all left right)
 
 -- one hash for each search at most
 asked_most : (is_vec : Bool) (searches most : ℕ) → searches ≤ most → search_asked is_vec * searches ≤ most
@@ -136,9 +105,8 @@ module _ {K V S : Type 0} (eq : K → K → Bool) (value_eq : V → V → Bool) 
   comparison_law left m before after costs =
       let searched = searched_keys eq value_eq left m.pairs in
       let most = searched_most eq value_eq left m.pairs in
-      let asked = asked_together eq hash m searched before after costs in
-      let compared = compared_together eq hash m searched before after costs in
-      let looked = looked_together eq hash m searched before after costs in
+      let costly = together eq hash m searched before after costs in
+      let asked = costly.0 in
       record {
         lengths_differ = λ differ. none_cost eq hash m before after
             (subst (λ ks. AreSearchCosts eq hash m ks before after) (sym (none_searched eq value_eq left m.pairs differ)) costs);
@@ -147,7 +115,7 @@ module _ {K V S : Type 0} (eq : K → K → Bool) (value_eq : V → V → Bool) 
         asked_at_most = omega (arith, asked, asked_most m.is_vec (length searched) (length left) most);
         asked_where_same = λ left_distinct right_distinct same.
             asked ∙ ap (λ n. before.asked + search_asked m.is_vec * n) (all_are_searched left m left_distinct right_distinct same);
-        compared_at_most = omega (arith, compared, mul-le-mul_left (length m.pairs) most);
-        looked_in_a_vector = λ vector. looked_in_vector eq hash m vector searched before after costs;
-        looked_at_most = omega (arith, looked, mul-le-mul_left (length m.pairs + 1) most);
+        compared_at_most = omega (arith, costly.1, mul-le-mul_left (length m.pairs) most);
+        looked_in_a_vector = costly.3;
+        looked_at_most = omega (arith, costly.2, mul-le-mul_left (length m.pairs + 1) most);
       }

@@ -14,7 +14,8 @@ use Rattle.half_mean.specs.Mean.{total_filling, MeanFillingIsAtMost}
 use Rattle.half_mean.proofs.lemmas.Filling.{filling_capacity_law, filling_half_full_law}
 use Rattle.halfbrown.specs.Costs.{hit_reads, filling_reads}
 use Rattle.halfbrown.specs.State.{State, IsValid}
-use Rattle.half_laws.specs.HitLaws.{HitLaw, HitTotalLaw, HitHistoryLaw, FillingOrderLaw, HalfFullHitLaw, CapacityHitLaw}
+use Rattle.half_laws.specs.HitLaws.{HitLaw, HitTotalLaw, HitHistoryLaw, FillingOrderLaw, MeanHitIsAtMost}
+use Rattle.half_laws.specs.MeanLaws.{InHalfFullTables, InTables}
 use Rattle.half_laws.specs.MapLaws.{HoldSamePairs}
 use Rattle.half_laws.proofs.lemmas.means.{table_count, in_half_full_tables, in_tables}
 
@@ -59,10 +60,10 @@ module _ {K : Type 0} (V : Type 0) {S : Type 0} (hash : S → K → ℕ) where
   hit_history_law limit eq a b wanted asked wanted' asked' found found' before after before' after' same is table cost cost' =
       cost.hits table ∙ filling-same limit eq a b same is table ∙ sym (cost'.hits (sym same.form ∙ table))
 
-pub half_full_hit_law : HalfFullHitLaw 3 2
+pub half_full_hit_law : InHalfFullTables (MeanHitIsAtMost 3 2)
 unfolding total_filling
 half_full_hit_law = in_half_full_tables (λ hashes m n. MeanFillingIsAtMost hashes m n 3 2) filling_half_full_law
 
-pub capacity_hit_law : CapacityHitLaw 5 2
+pub capacity_hit_law : InTables (MeanHitIsAtMost 5 2)
 unfolding total_filling
 capacity_hit_law = in_tables (λ hashes m n. MeanFillingIsAtMost hashes m n 5 2) filling_capacity_law

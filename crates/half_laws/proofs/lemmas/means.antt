@@ -7,7 +7,7 @@ use Rattle.half_mean.specs.Mean.{total_reach, MeanReachIsAtMost, UpToHalf, UpToC
 use Rattle.half_mean.proofs.lemmas.Means.{bucket_share, half_full_law, capacity_law}
 use Rattle.halfbrown.specs.State.{IsTableCapacity}
 use Rattle.halfbrown.proofs.lemmas.pairs.Indices.{absent_of_unheld}
-use Rattle.half_laws.specs.MeanLaws.{MissLaw, MissTotalLaw, InHalfFullTables, InTables, HalfFullMissLaw, CapacityMissLaw}
+use Rattle.half_laws.specs.MeanLaws.{MissLaw, MissTotalLaw, InHalfFullTables, InTables, MeanMissIsAtMost}
 
 pub miss_law : {K : Type 0} (V : Type 0) {S : Type 0} (hash : S → K → ℕ) → MissLaw V hash
 miss_law V hash m test wanted asked before after table unheld costs =
@@ -36,10 +36,12 @@ module _ (Law : ℕ → ℕ → ℕ → Type 0) where
       let count = table_count capacity is in
       law bits (buckets_of capacity) held (omega arith) count.0 fits (omega arith)
 
-pub half_full_miss_law : HalfFullMissLaw 5 2
+pub half_full_miss_law : InHalfFullTables (MeanMissIsAtMost 5 2)
 unfolding total_reach
 half_full_miss_law = in_half_full_tables (λ hashes m n. MeanReachIsAtMost hashes m n 5 2) half_full_law
 
-pub capacity_miss_law : CapacityMissLaw 17 2
+pub capacity_miss_law : InTables (MeanMissIsAtMost 17 2)
 unfolding total_reach
 capacity_miss_law = in_tables (λ hashes m n. MeanReachIsAtMost hashes m n 17 2) capacity_law
+
+pub ruleset miss_laws = (miss_total_law, half_full_miss_law, capacity_miss_law)

@@ -1,11 +1,11 @@
 -- What holds of `reach` for every list of held hashes.
-use Rattle.std.proofs.Common.{◌≡◌, ℕ, zero, suc, ◌-◌, ◌<◌, ◌≤◌, true, false, leb, nat_lt, inl, inr, refl, ap, ◌∙◌, subst, arith, List}
+use Rattle.std.proofs.Common.{◌≡◌, ℕ, zero, suc, ◌-◌, ◌<◌, ◌≤◌, true, false, leb, nat_lt, inl, inr, ap, subst, arith, List}
 use Rattle.std.proofs.Common.{length, get_or, sum_by, Contains}
 use Rattle.std.proofs.lemmas.Grind.{common_steps}
 use Rattle.std.proofs.lemmas.Bool.{cases_lt, cases_eq, cases_Bool, or_cases, leb-true, lt-ltb, both_ways, false≢true}
 use Rattle.std.proofs.lemmas.List.Sums.{get_or-le-sum_by, count_by-le-length}
 use Rattle.half_store.specs.Reach.{home, probe_distance, bucket_after, load, loaded_within, bucket_is_loaded, loaded_run, reach, IsLoaded}
-use Rattle.half_laws.specs.ProbeLaws.{IsCrowded, PassesLoaded, ReachHistoryLaw, NoBucketsLaw, NothingHeldLaw, OneBucketLaw, SharedHomeLaw}
+use Rattle.half_laws.specs.ProbeLaws.{PassesLoaded, NothingHeldLaw, OneBucketLaw, SharedHomeLaw}
 use Rattle.half_laws.specs.ProbeLaws.{ShortLaw, OnceRoundLaw, CrowdingLaw, StopsLaw}
 use Rattle.half_store.proofs.lemmas.table.Circle.{distance_is, distance_self, after_is, bucket_after-zero, after_next, bucket_after-lt}
 use Rattle.half_store.proofs.lemmas.table.Counts.{tick, tick_yes}
@@ -14,9 +14,6 @@ use Rattle.half_store.proofs.lemmas.table.Filled.{probe_stops, crowd_of_probe}
 use Rattle.half_store.proofs.lemmas.table.History.{reach-permutation}
 use Rattle.half_store.proofs.lemmas.table.Reach.{bucket_is_loaded-yes, loaded_run-is, loaded_run-ge, reach-none, reach-some}
 use Rattle.half_store.proofs.lemmas.table.Slots.{home-lt}
-
-pub history_law : ReachHistoryLaw
-history_law some others m hash p = reach-permutation some others m hash p
 
 module _ (hashes : List ℕ) (m : ℕ) where
   loaded_within-size : (last most : ℕ) → loaded_within hashes m last most ≡ true → (size : ℕ) × (1 ≤ size) × (size ≤ most)
@@ -40,11 +37,7 @@ module _ (hashes : List ℕ) (m : ℕ) where
   pub loaded_run-le : (most bucket : ℕ) → loaded_run hashes m most bucket ≤ most
   unfolding loaded_run
   loaded_run-le zero bucket = omega arith
-  loaded_run-le (suc most) bucket =
-      elim (cases_Bool (bucket_is_loaded hashes m bucket)) [
-        | inl e ↦ rw e (omega (arith, loaded_run-le most (bucket_after m bucket 1)))
-        | inr e ↦ rw e (omega arith)
-      ]
+  loaded_run-le (suc most) bucket = grind (arith, common_steps, loaded_run-le most (bucket_after m bucket 1))
 
   -- each bucket of the run is loaded
   loaded_run-loaded : (most b : ℕ) → b < m → most < m → (k : ℕ) → k < loaded_run hashes m most b
@@ -104,15 +97,8 @@ crowding_law hashes m hash passed few more =
       crowded = crowd.3;
     }
 
-pub no_buckets_law : NoBucketsLaw
-no_buckets_law hashes hash = reach-none hashes 0 hash refl
-
 pub once_round_law : OnceRoundLaw
-once_round_law hashes m hash =
-    elim (cases_lt 0 m) [
-      | inl some ↦ omega (arith, reach-some hashes m hash some, loaded_run-le hashes m (m - 1) (home m hash))
-      | inr none ↦ omega (arith, reach-none hashes m hash (omega arith))
-    ]
+once_round_law hashes m hash = grind (arith, cases_lt 0 m, reach-some hashes m hash, reach-none hashes m hash, loaded_run-le)
 
 pub short_law : ShortLaw
 short_law hashes m hash =
@@ -199,3 +185,5 @@ pub stops_law : StopsLaw
 stops_law hashes m hash passed few =
     let is : reach hashes m hash ≡ suc (loaded_run hashes m (m - 1) (home m hash)) = reach-some hashes m hash (omega arith) in
     (λ e. stops_then hashes m hash passed few (omega arith), λ p. let r = stops_back hashes m hash passed few p in omega arith)
+
+pub ruleset probe_laws = (reach-permutation, reach-none, nothing_held_law, one_bucket_law, shared_home_law, short_law, once_round_law)

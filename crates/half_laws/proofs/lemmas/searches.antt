@@ -1,6 +1,7 @@
 -- What holds of every search.
 use Rattle.std.proofs.Common.{◌≡◌, ℕ, ◌+◌, ◌-◌, ◌<◌, ◌≤◌, ◌==◌, Bool, true, false, not, ◌&&◌, refl, sym, ap, ◌∙◌, subst, arith, List}
 use Rattle.std.proofs.Common.{length, map, cond, Option, None, is_some, IsPermutation, if◌then◌else◌}
+use Rattle.std.proofs.lemmas.Bool.{and_right}
 use Rattle.std.proofs.lemmas.Grind.{common_steps}
 use Rattle.std.proofs.lemmas.List.Sorted.{IsPermutation-map, length_permutation, sum_by-IsPermutation, list_any-IsPermutation}
 use Rattle.std.proofs.lemmas.Map.Entries.{length-keys_of}
@@ -13,7 +14,8 @@ use Rattle.half_store.specs.PairLists.{index_of}
 use Rattle.half_store.specs.Work.{Work, first_match_cost}
 use Rattle.half_store.proofs.lemmas.table.Reach.{reach-none}
 use Rattle.half_store.proofs.lemmas.capacity.{four-le_count, buckets_for-least, buckets_of-capacity_of, capacity_for-capacity_of}
-use Rattle.half_laws.proofs.lemmas.probes.{history_law as reach_history, crowding_law}
+use Rattle.half_store.proofs.lemmas.table.History.{reach-permutation}
+use Rattle.half_laws.proofs.lemmas.probes.{crowding_law}
 use Rattle.halfbrown.specs.declared.run.Command.{Command}
 use Rattle.halfbrown.specs.declared.run.Command.TheVariants.{Insert, InsertNew, EntryOrInsert, RawOrInsert}
 use Rattle.halfbrown.specs.CostRanges.{Range, Cost, TallyGrewBy, NumberGrewWithin, exactly, between, add_ranges, no_cost}
@@ -24,7 +26,7 @@ use Rattle.halfbrown.specs.Costs.{addition_grows, IsSearchCost, IsInsertCost}
 use Rattle.half_laws.specs.MapLaws.{HoldSamePairs, GrewExactlyBy, HistoryLaw, InsertionHistoryLaw, CrowdedSearchLaw, CrowdedInsertionLaw}
 use Rattle.half_laws.specs.MapLaws.{CrowdedProbeLaw, CrowdedGrowthLaw, CrowdedUncheckedLaw, CommandCostLaw, CommandHashesLaw}
 use Rattle.half_laws.specs.MapLaws.{CommandBucketsLaw, finds_in_vector}
-use Rattle.halfbrown.specs.Growth.{is_full, is_vec_after}
+use Rattle.halfbrown.specs.Growth.{is_vec_after}
 use Rattle.halfbrown.specs.Pairs.{holds, holds_by}
 use Rattle.halfbrown.specs.Run.{command_cost}
 use Rattle.halfbrown.specs.State.{State, state_with, IsValid, IsTableCapacity}
@@ -78,28 +80,6 @@ growing_reads : (refused granted held grows : Bool) (probe second before after :
     → after ≡ before + (probe + second)
 growing_reads refused granted held grows probe second before after some none grew = grind (arith, common_steps, grew)
 
--- a granted call is not refused its switch
-granted_or_refused : (full granted : Bool) → (full && not granted && granted) ≡ false
-granted_or_refused full granted = grind (arith, common_steps)
-
--- an insertion without a search reads one probe at most
-unchecked_most : (granted : Bool) (probe before after : ℕ) → NumberGrewWithin (exactly (if granted then probe else 0)) before after
-    → after ≤ before + probe
-unchecked_most granted probe before after grew = grind (arith, common_steps, grew)
-
--- a fact of two numbers holds of the one that is chosen
-of_both : (P : ℕ → Type 0) (b : Bool) (x y : ℕ) → P x → P y → P (if b then x else y)
-of_both P true x y of_x of_y = of_x
-of_both P false x y of_x of_y = of_y
-
--- a map that does not stay a vector, and is no full one, is a table
-table_of : (is_vec full : Bool) → full ≡ false → (is_vec && not full) ≡ false → is_vec ≡ false
-table_of is_vec full part stays = grind (arith, common_steps)
-
--- a key that is not held is not found in a vector
-never_found : (in_vector held : Bool) → held ≡ false → (in_vector && held) ≡ false
-never_found in_vector held unheld = grind (arith, common_steps)
-
 module _ {K V S : Type 0} (hash : S → K → ℕ) where
   pub crowded_probe_law : CrowdedProbeLaw V hash
   crowded_probe_law builder capacity pairs wanted passed is fits l = grind (arith, common_steps, buckets-more, crowding_law, length-keys_of, length-map, map, reach-none)
@@ -111,11 +91,11 @@ module _ {K V S : Type 0} (hash : S → K → ℕ) where
     module _ (m : State K V S) (s : IsValid limit eq m) (stays : is_vec_after limit m ≡ false) where
       -- once the form has changed, the capacity is that of a table that the pairs fit
       switched_fits : IsTableCapacity (capacity_after_switch limit m) × (length m.pairs ≤ capacity_after_switch limit m)
-      switched_fits = grind (arith, common_steps, buckets_for-least, capacity_for-capacity_of, full_len, table_of)
+      switched_fits = grind (arith, common_steps, buckets_for-least, capacity_for-capacity_of, full_len)
 
       -- and so is the one that is enough for one pair more
       grown_fits : IsTableCapacity (capacity_after_growth limit m) × (length m.pairs ≤ capacity_after_growth limit m)
-      grown_fits = grind (arith, common_steps, buckets_for-least, capacity_for-capacity_of, of_both, switched_fits)
+      grown_fits = grind (arith, common_steps, buckets_for-least, capacity_for-capacity_of, switched_fits)
 
     pub crowded_growth_law : CrowdedGrowthLaw V limit eq hash
     crowded_growth_law m k granted before after s stays grows costs =
@@ -130,7 +110,7 @@ module _ {K V S : Type 0} (hash : S → K → ℕ) where
           second = second;
           read = growing_reads (is_switch_refused limit m granted) granted (holds eq m.pairs k) (addition_grows limit m) first second
               before.looked after.looked grows
-              (granted_or_refused (is_full limit m) granted)
+              (grind (arith, common_steps))
               (subst (λ b. NumberGrewWithin (if is_switch_refused limit m granted then exactly 0 else add_ranges
               (if b then between 1 (first - 1) else exactly first)
               (exactly (if granted && not (holds eq m.pairs k) && addition_grows limit m then second else 0))) before.looked after.looked)
@@ -146,7 +126,7 @@ module _ {K V S : Type 0} (hash : S → K → ℕ) where
         }
 
     pub crowded_unchecked_law : CrowdedUncheckedLaw V limit eq hash
-    crowded_unchecked_law m k granted before after passed s grew l = grind (arith, common_steps, crowded_probe_law, grown_fits, unchecked_most)
+    crowded_unchecked_law m k granted before after passed s grew l = grind (arith, common_steps, crowded_probe_law, grown_fits)
 
     pub crowded_insertion_law : CrowdedInsertionLaw V limit eq hash
     crowded_insertion_law m k granted before after passed s none costs l = grind (arith, common_steps, crowded_probe_law, insertion_most, is_some, looks_most, switched_fits)
@@ -166,12 +146,10 @@ module _ {K V S : Type 0} (hash : S → K → ℕ) where
     finds_none = let absent = absent_of_unheld test pairs unheld in absent.index
 
     compares-exact : (is_vec : Bool) → IsExact (search_compares h wanted (index_of test (keys_of pairs)) is_vec pairs)
-    compares-exact true = subst (λ found. IsExact (search_compares h wanted found true pairs)) (sym finds_none) refl
-    compares-exact false = subst (λ found. IsExact (search_compares h wanted found false pairs)) (sym finds_none) refl
+    compares-exact is_vec = rw finds_none (grind (arith, common_steps))
 
     looks-exact : (is_vec : Bool) (capacity : ℕ) → IsExact (search_reads h wanted (index_of test (keys_of pairs)) is_vec capacity pairs)
-    looks-exact true capacity = refl
-    looks-exact false capacity = subst (λ found. IsExact (search_reads h wanted found false capacity pairs)) (sym finds_none) refl
+    looks-exact is_vec capacity = rw finds_none (grind (arith, common_steps))
 
   -- what a search costs by this test, under this hash, that hashed so often
   abbrev cost_asking : (K → Bool) → ℕ → ℕ → State K V S → Cost
@@ -199,7 +177,7 @@ module _ {K V S : Type 0} (hash : S → K → ℕ) where
         (sum_by-IsPermutation (λ q. cond (hash builder q == wanted) 1 0) (keys_of xs) (keys_of ys) (keys-permutation xs ys p))
 
     reach-same : (m : ℕ) → reach (map (hash builder) (keys_of xs)) m wanted ≡ reach (map (hash builder) (keys_of ys)) m wanted
-    reach-same m = reach_history (map (hash builder) (keys_of xs)) (map (hash builder) (keys_of ys)) m wanted
+    reach-same m = reach-permutation (map (hash builder) (keys_of xs)) (map (hash builder) (keys_of ys)) m wanted
         (IsPermutation-map (hash builder) (keys_of xs) (keys_of ys) (keys-permutation xs ys p))
 
     compares-same : (is_vec : Bool) → (is_vec && holds_by test xs) ≡ false
@@ -221,7 +199,7 @@ module _ {K V S : Type 0} (hash : S → K → ℕ) where
       ≡ cost_asking test wanted asked b = λ i. record {
         asked = asked;
         compared = compares-same b.builder a.pairs b.pairs same.pairs test wanted b.is_vec
-            (never_found b.is_vec (holds_by test a.pairs) unheld) i;
+            (and_right b.is_vec (holds_by test a.pairs) unheld) i;
         looked = looks-same b.builder a.pairs b.pairs same.pairs test wanted b.is_vec b.capacity i;
       } in (
         least_work (cost_asking test wanted asked b),
@@ -353,7 +331,7 @@ module _ {K V S : Type 0} (hash : S → K → ℕ) where
           → insert_cost limit eq hash a k granted ≡ insert_cost limit eq hash b k granted
       insertions-alike k granted unheld = ap (λ m. insert_cost limit eq hash m k granted) alike
           ∙ insert-same b.is_vec a.pairs b.pairs b.capacity b.builder a b same.pairs k
-          granted (never_found (is_vec_after limit moved) (holds eq a.pairs k) unheld)
+          granted (and_right (is_vec_after limit moved) (holds eq a.pairs k) unheld)
 
     pub insertion_history_law : InsertionHistoryLaw V limit eq hash
     insertion_history_law a b k granted a_before a_after b_before b_after same unheld a_costs b_costs = (
@@ -378,3 +356,7 @@ module _ {K V S : Type 0} (hash : S → K → ℕ) where
     command_buckets_law a b command granted same = ap (λ m. (command_cost limit eq hash m command granted).looked) (alike a b same)
         ∙ buckets-same b.is_vec a.pairs b.pairs b.capacity b.builder a b same.pairs command
         granted
+
+pub ruleset search_laws = (command_cost_law, command_hashes_law, command_buckets_law)
+
+pub ruleset crowding_laws = (crowded_probe_law, crowded_search_law, crowded_insertion_law, crowded_growth_law)

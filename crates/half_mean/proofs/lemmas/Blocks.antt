@@ -1,12 +1,14 @@
 -- Blocks: the buckets from which probes end at one empty bucket.
-use Rattle.std.proofs.Common.{◌≡◌, ◌≢◌, ℕ, zero, suc, ◌+◌, ◌*◌, ◌<◌, ◌≤◌, Bool, false, ◌==◌, ltb, refl, sym, ap, ◌∙◌, subst, arith}
+use Rattle.std.proofs.Common.{◌≡◌, ℕ, zero, suc, ◌+◌, ◌*◌, ◌<◌, ◌≤◌, Bool, ◌==◌, ltb, refl, sym, ap, ◌∙◌, subst, arith}
 use Rattle.std.proofs.Common.{List, ◌∷◌, length, sum_by}
 use Rattle.std.proofs.Math.Nat.{mod-eq_of_lt}
 use Rattle.std.proofs.lemmas.Grind.{common_steps}
-use Rattle.std.proofs.lemmas.Bool.{ne_eqb, eq-eqb, lt-ltb, le-ltb}
+use Rattle.std.proofs.lemmas.Bool.{ne_eqb, eq-eqb}
+use Rattle.std.proofs.lemmas.Bool.Decides.{nat_tests}
 use Rattle.half_store.specs.Reach.{probe_distance, reach}
 use Rattle.half_store.proofs.lemmas.table.Circle.{distance_is, probe_distance-lt}
-use Rattle.half_store.proofs.lemmas.table.Counts.{count_to, count_to_more, count_to-none, stretch_size, tick}
+use Rattle.half_store.proofs.lemmas.table.Counts.{count_to, stretch_size, tick}
+use Rattle.half_store.proofs.lemmas.table.Sums.{below-one}
 use Rattle.half_mean.specs.Mean.{sum_below}
 use Rattle.half_mean.proofs.lemmas.Sums.{below-same, below-plus, below-const, below-swap}
 use Rattle.half_mean.proofs.lemmas.Stops.{stop, ends_with, next-other, stop-joins, stop-stays, next-apart}
@@ -23,18 +25,6 @@ block m w h = sum_below m (λ b. same m w b h)
 abbrev pub behind : ℕ → List ℕ → ℕ → ℕ
 behind m w h = suc (stop m w h)
 
-tick_same : (a b : ℕ) → a ≡ b → tick (a == b) ≡ 1
-tick_same a b e = rw (eq-eqb a b e) refl
-
-tick_apart : (a b : ℕ) → a ≢ b → tick (a == b) ≡ 0
-tick_apart a b ne = rw (ne_eqb a b ne) refl
-
-tick_lt : (s t : ℕ) → s < t → tick (ltb s t) ≡ 1
-tick_lt s t l = rw (lt-ltb s t l) refl
-
-tick_ge : (s t : ℕ) → t ≤ s → tick (ltb s t) ≡ 0
-tick_ge s t l = rw (le-ltb s t l) refl
-
 count_to-below : (Q : ℕ → Bool) (m : ℕ) → count_to Q m ≡ sum_below m (λ b. tick (Q b))
 count_to-below Q zero = refl
 count_to-below Q (suc m) = omega (arith, count_to-below Q m)
@@ -48,14 +38,14 @@ block-entries m w h few =
 module _ (m : ℕ) (v : List ℕ) (x : ℕ) where
   -- an insertion joins two blocks
   same-joined : (b : ℕ) → length v + 1 < m → same m (x ∷ v) b x ≡ same m v b x + same m v b (behind m v x)
-  same-joined b few = grind (arith, common_steps, tick_same, tick_apart, next-other, stop-joins, stop-stays)
+  same-joined b few = grind (arith, common_steps, nat_tests, next-other, stop-joins, stop-stays)
 
   pub block-joined : length v + 1 < m → block m (x ∷ v) x ≡ block m v x + block m v (behind m v x)
   block-joined few = ap (sum_below m) (λ i b. same-joined b few i) ∙ below-plus m (λ b. same m v b x) (λ b. same m v b (behind m v x))
 
   -- if three buckets are empty, the block of a hash is behind another after its insertion exactly if it was before
   pub same-behind : (h : ℕ) → length v + 2 < m → same m (x ∷ v) x (behind m (x ∷ v) h) ≡ same m v x (behind m v h)
-  same-behind h few = grind (arith, common_steps, tick_same, tick_apart, next-other, stop-joins, stop-stays, next-apart)
+  same-behind h few = grind (arith, common_steps, nat_tests, next-other, stop-joins, stop-stays, next-apart)
 
 module _ (m : ℕ) (w : List ℕ) (few : length w < m) where
   -- how far the empty bucket is at which a probe from a bucket ends
@@ -81,16 +71,10 @@ module _ (m : ℕ) (w : List ℕ) (few : length w < m) where
   -- of two buckets of one block one is on the way from the other, or they are one
   same-ways : (h b : ℕ) → h < m → b < m → same m w b h ≡ on_way h b + on_way b h + tick (b == h)
   same-ways h b in_h in_b =
-      grind (arith, common_steps, tick_same, tick_apart, tick_lt, tick_ge, way-same h b in_h in_b, way-same b h in_b in_h, same-start h b (stop m w h) in_h in_b)
+      grind (arith, common_steps, nat_tests, way-same h b in_h in_b, way-same b h in_b in_h, same-start h b (stop m w h) in_h in_b)
 
   one_self : (h : ℕ) → h < m → sum_below m (λ b. tick (b == h)) ≡ 1
-  one_self h in_h =
-      omega (
-        arith,
-        count_to-below (λ b. b == h) m,
-        count_to-none (λ b. false) m (λ b l. refl),
-        count_to_more (λ b. false) (λ b. b == h) m h in_h refl (eq-eqb h h refl) (λ b l ne. sym (ne_eqb b h ne)),
-      )
+  one_self h in_h = below-one m h (λ b. tick (b == h)) in_h (λ b l ne. rw (ne_eqb b h ne) refl) ∙ rw (eq-eqb h h refl) refl
 
   ways : (h : ℕ) → h < m → sum_below m (on_way h) ≡ far h
   ways h in_h =

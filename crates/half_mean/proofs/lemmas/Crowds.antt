@@ -1,7 +1,8 @@
 -- How few lists have a crowd of at least `d` entries: as many entries below some number as it, or more.
 use Rattle.std.proofs.Common.{◌≡◌, ℕ, zero, suc, ◌+◌, ◌*◌, ◌^◌, ◌<◌, ◌≤◌, Bool, true, false, ◌||◌, ◌&&◌, leb, ltb, inl, inr, refl, sym, ap, ◌∙◌, subst, arith, List, [], ◌∷◌, ◌++◌, length, count_by}
 use Rattle.std.proofs.Math.Nat.{pow-zero, pow-succ', mul-le-mul_left}
-use Rattle.std.proofs.lemmas.Bool.{cases_lt, cases_eq, lt-leb, le-leb, le-ltb, or_left, or_right, and_from, and_right}
+use Rattle.std.proofs.lemmas.Bool.{cases_lt, cases_eq, lt-leb, le-ltb, and_right}
+use Rattle.std.proofs.lemmas.Bool.Decides.{nat_tests}
 use Rattle.std.proofs.lemmas.List.Sums.{sum_by-append, sum_by-cons, count_by-le-length}
 use Rattle.std.proofs.lemmas.Nat.{mul-pow}
 use Rattle.half_store.proofs.lemmas.table.Counts.{tick, tick_no}
@@ -18,11 +19,6 @@ abbrev Blind : ℕ → (List ℕ → ℕ) → Type 0
 Blind m f = (some others : List ℕ) → f (some ++ m ∷ others) ≡ f (some ++ others)
 
 module _ (m q : ℕ) where
-  thin-sum : (p u s1 s2 a s t : ℕ) → p * (u * s1) ≤ a * t → p * q * (u * s2) ≤ a * s * t → p * (q * u * (s1 + s2)) ≤ a * ((s + q) * t)
-  thin-sum p u s1 s2 a s t first others =
-      let more : q * (p * (u * s1)) ≤ q * (a * t) = mul-le-mul_left q first in
-      grind arith
-
   -- the sum over all numbers below m that may come first
   inner : (List ℕ → ℕ) → List ℕ → ℕ
   inner f w = sum_below m (λ x. f (x ∷ w))
@@ -48,10 +44,9 @@ module _ (m q : ℕ) where
       → p * (q ^ n * sum_lists (suc m) n f) ≤ a * (s + q) ^ n
   thin zero p a s f blind bound = rw (pow-zero (s + q)) (rw (pow-zero s) at (bound 0 (omega arith)))
   thin (suc n) p a s f blind bound =
-      rw (split n f blind, pow-succ' q n, pow-succ' (s + q) n)
-      (thin-sum p (q ^ n) (sum_lists (suc m) n f) (sum_lists (suc m) n (inner f)) a s ((s + q) ^ n)
-      (thin n p a s f blind (λ l small. bound l (omega arith)))
-      (thin n (p * q) (a * s) s (inner f) (inner-blind f blind) (λ l small. inner-step p a s l f (bound (suc l) (omega arith)))))
+      let more = mul-le-mul_left q (thin n p a s f blind (λ l small. bound l (omega arith))) in
+      let others = thin n (p * q) (a * s) s (inner f) (inner-blind f blind) (λ l small. inner-step p a s l f (bound (suc l) (omega arith))) in
+      rw (split n f blind, pow-succ' q n, pow-succ' (s + q) n) (grind arith)
 
 -- how many entries are below a number
 abbrev pub entries_below : ℕ → List ℕ → ℕ
@@ -76,11 +71,7 @@ crowded-blind d (suc n) m some others few = rw (below-blind (suc n) m some other
 pub crowded-yes : (d t m : ℕ) (w : List ℕ) → 1 ≤ t → d ≤ t → t ≤ m → t ≤ entries_below t w → crowded d m w ≡ true
 unfolding crowded
 crowded-yes d t zero w some far small full = absurd (omega arith)
-crowded-yes d t (suc m) w some far small full =
-    elim (cases_eq t (suc m)) [
-      | inl e ↦ or_left _ (crowded d m w) (and_from _ _ (le-leb _ _ (omega arith)) (le-leb _ _ (subst (λ n. n ≤ entries_below n w) e full)))
-      | inr ne ↦ or_right (leb d (suc m) && leb (suc m) (entries_below (suc m) w)) _ (crowded-yes d t m w some far (omega arith) full)
-    ]
+crowded-yes d t (suc m) w some far small full = grind (arith, nat_tests, cases_eq t (suc m), crowded-yes d t m w)
 
 crowded-no : (d m : ℕ) (w : List ℕ) → m < d → crowded d m w ≡ false
 unfolding crowded

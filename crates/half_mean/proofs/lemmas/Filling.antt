@@ -31,9 +31,6 @@ filling-sum e n m r f c is mean before =
     let terms = ap (λ s. c * s) (filling-terms e n m is) in
     grind arith
 
-cases-step : (m n : ℕ) → m * (n * m ^ n) ≡ n * m ^ suc n
-cases-step m n = mul_left_comm m n (m ^ n) ∙ ap (λ s. n * s) (sym (pow-succ' m n))
-
 pub filling-none : (m : ℕ) → total_filling m m 0 ≡ 0
 unfolding total_filling
 filling-none m = refl
@@ -46,7 +43,7 @@ filling_of_homes (suc n) m few =
     let free : m - n ≡ suc e = omega arith in
     let square : (m - n) ^ 2 ≡ suc e * suc e = ap (λ d. d ^ 2) free ∙ pow-two (suc e) in
     let mean = rw (square, pow-two m, add-one n) at (mean_of_homes m n (omega arith)) in
-    let before = rw (free, cases-step m n) at
+    let before = rw (free, mul_left_comm m n (m ^ n), ← pow-succ' m n) at
     (scaled m (total_filling m m n) (2 * (m - n)) (m + (m - n)) (n * m ^ n) (filling_of_homes n m (omega arith))) in
     rw (filling-step m n) (le_of_mul-le-mul_right
     (filling-sum e n m (total_reach m m n) (m * total_filling m m n) (m ^ suc n) (omega arith) mean before)
@@ -73,3 +70,5 @@ filling_half_full_law = up_to_half (λ hashes m n. MeanFillingIsAtMost hashes m 
 
 pub filling_capacity_law : CapacityFillingLaw 5 2
 filling_capacity_law = up_to_capacity (λ hashes m n. MeanFillingIsAtMost hashes m n 5 2) (filling_at_load 4)
+
+pub ruleset filling_laws = (filling_law, filling_half_full_law, filling_capacity_law)

@@ -25,9 +25,6 @@ abbrev sums : ℕ → ℕ → Sums
 sums m zero = record { one = m; weighted = m; filling = 0 }
 sums m (suc n) = next m n (sums m n)
 
-twice : (r m f : ℕ) → (r + m * f) * 2 ≡ r * 2 + m * (f * 2)
-twice r m f = grind arith
-
 sums-are : (m n : ℕ) → n ≤ m → (plain m n ≡ (sums m n).one) × (knuth m n ≡ (sums m n).weighted) × (total_filling m m n * 2 ≡ (sums m n).filling)
 sums-are m zero fits = (knuth-zero (λ k. 1) m 0 ∙ omega arith, knuth-zero (λ k. k + 1) m 0 ∙ omega arith, ap (λ f. f * 2) (filling-none m))
 sums-are m (suc n) fits =
@@ -36,7 +33,7 @@ sums-are m (suc n) fits =
     let read = exact_mean_law m n (omega arith) ∙ ap (λ e. m ^ e + knuth m n) (add-one n) in (
       plain-step m n ∙ ap (λ x. m ^ suc (suc n) + suc n * x) before.0,
       knuth_plain-step m n ∙ (λ i. m ^ suc (suc n) + suc n * (before.1 i + before.0 i)),
-      ap (λ f. f * 2) (filling-step m n) ∙ twice (total_reach m m n) m (total_filling m m n)
+      ap (λ f. f * 2) (filling-step m n) ∙ grind arith
           ∙ (λ i. (read ∙ ap (λ k. m ^ suc n + k) before.1) i + m * before.2 i),
     )
 
@@ -70,3 +67,5 @@ pub half_filling_least : IsLeastOver HalfFullFillingLaw 3 2
 half_filling_least over law =
     above 2 over (total_filling 4 4 2) (filling_cases 4 2) 2 (rw ((sums-are 4 2 (omega arith)).2) (ltb-true _ _ refl))
     (law 1 4 2 (omega arith) (omega arith))
+
+pub ruleset least_laws = (half_full_least, capacity_least, filling_least, half_filling_least)

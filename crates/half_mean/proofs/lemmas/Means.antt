@@ -46,9 +46,6 @@ cases_law hashes held = (
       ∙ mul_comm (hashes ^ held) held,
 )
 
-mean-sum : (t mm k dd sq : ℕ) → t * 2 ≡ mm + k → k * dd ≤ mm * sq → t * (2 * dd) ≤ (dd + sq) * mm
-mean-sum t mm k dd sq is small = let all : t * 2 * dd ≡ (mm + k) * dd = ap (λ s. s * dd) is in grind arith
-
 -- the bound if hashes are homes
 pub mean_of_homes : (m n : ℕ) → n < m → MeanReachIsAtMost m m n ((m - n) ^ 2 + m ^ 2) (2 * (m - n) ^ 2)
 mean_of_homes m n few =
@@ -57,8 +54,9 @@ mean_of_homes m n few =
     let square : knuth m n * (m - n) ^ 2 ≡ knuth m n * (suc empty * suc empty) =
     ap (λ s. knuth m n * s) (ap (λ d. d ^ 2) free ∙ pow-two (suc empty)) in
     let all : m ^ suc (suc (suc n)) ≡ m ^ (n + 1) * m ^ 2 = ap (λ e. m ^ e) (omega arith) ∙ pow-add m (n + 1) 2 in
-    mean-sum (total_reach m m n) (m ^ (n + 1)) (knuth m n) ((m - n) ^ 2) (m ^ 2) (exact_mean_law m n few)
-    (let small = bound empty n m (omega arith) in omega arith)
+    let small : knuth m n * (m - n) ^ 2 ≤ m ^ (n + 1) * m ^ 2 = let bounded = bound empty n m (omega arith) in omega arith in
+    let twice = ap (λ s. s * (m - n) ^ 2) (exact_mean_law m n few) in
+    grind arith
 
 pub scaled : (s t under over c : ℕ) → MeanIsAtMost t c over under → MeanIsAtMost (s * t) (s * c) over under
 scaled s t under over c small = let more : s * (t * under) ≤ s * (over * c) = mul-le-mul_left s small in grind arith
@@ -78,16 +76,13 @@ square-le t d m small =
     let same : t * t * d ^ 2 ≡ t * t * (d * d) = ap (λ s. t * t * s) (pow-two d) in
     grind (arith, pow-two m)
 
-times-load : (t c dd sq tt : ℕ) → t * (2 * dd) ≤ (dd + sq) * c → sq ≤ tt * dd → t * 2 * dd ≤ (1 + tt) * c * dd
-times-load t c dd sq tt mean small = let more : sq * c ≤ tt * dd * c = mul-le-mul_right c small in grind arith
-
 -- if at least one bucket in `t` is empty
 mean_at_load : (t : ℕ) → AtLoad t (λ hashes m n. MeanReachIsAtMost hashes m n (1 + t * t) 2)
 mean_at_load t share m n few load =
     let some : 0 < (m - n) * (m - n) = mul-pos (omega arith) (omega arith) in
-    of_homes share m n (1 + t * t) 2 (omega arith) (le_of_mul-le-mul_right
-    (times-load (total_reach m m n) (m ^ (n + 1)) ((m - n) ^ 2) (m ^ 2) (t * t) (mean_of_homes m n few) (square-le t (m - n) m load))
-    (omega (arith, pow-two (m - n))))
+    let mean = mean_of_homes m n few in
+    let more = mul-le-mul_right (m ^ (n + 1)) (square-le t (m - n) m load) in
+    of_homes share m n (1 + t * t) 2 (omega arith) (le_of_mul-le-mul_right {k = (m - n) ^ 2} (grind arith) (omega (arith, pow-two (m - n))))
 
 -- a bucket count that hashes of some bits can have as homes divides their number
 pub bucket_share : (bits m : ℕ) → 0 < m → IsBucketCount m → m ≤ 2 ^ bits → (share : ℕ) × (2 ^ bits ≡ share * m)
@@ -119,3 +114,5 @@ half_full_law = up_to_half (λ hashes m n. MeanReachIsAtMost hashes m n 5 2) (me
 
 pub capacity_law : CapacityMeanLaw 17 2
 capacity_law = up_to_capacity (λ hashes m n. MeanReachIsAtMost hashes m n 17 2) (mean_at_load 4)
+
+pub ruleset mean_laws = (exact_mean_law, recursion_law, homes_law, mean_law, half_full_law, capacity_law)

@@ -1,5 +1,5 @@
 -- The laws of long probes.
-use Rattle.std.proofs.Common.{◌≡◌, ℕ, zero, suc, ◌+◌, ◌-◌, ◌*◌, ◌^◌, ◌<◌, ◌≤◌, inl, inr, refl, sym, ap, ◌∙◌, arith, add-one, List, max}
+use Rattle.std.proofs.Common.{◌≡◌, ℕ, zero, suc, ◌+◌, ◌-◌, ◌*◌, ◌^◌, ◌<◌, ◌≤◌, inl, inr, refl, ap, ◌∙◌, arith, add-one, List, max}
 use Rattle.std.proofs.Math.Nat.{pow-zero, pow-succ', mul_comm, mul_left_comm, mul-le-mul, mul-le-mul_left, mul-le-mul_right, le_of_mul-le-mul_left, one-le-pow}
 use Rattle.std.proofs.lemmas.Bool.{cases_lt, cases_eq, leb-true}
 use Rattle.std.proofs.lemmas.Bool.Decides.{nat_tests}
@@ -88,19 +88,13 @@ halves step x y (suc s) less =
     let all = mul-le-mul less (halves step x y s less) in
     rw (e, pow-add x step (step * s), pow-add y step (step * s), pow-succ' 2 s) (grind arith)
 
-halved-sum : (x y t long all : ℕ) → t * y ≤ x → long * x ≤ y * all → x * (long * t) ≤ x * all
-halved-sum x y t long all less tail =
-    let more : t * (long * x) ≤ t * (y * all) = mul-le-mul_left t tail in
-    let most : t * y * all ≤ x * all = mul-le-mul_right all less in
-    grind arith
-
 -- if at least one bucket in k is empty, and the tail of k halves with each step
 module _ (k step : ℕ) (two : 2 ≤ k) (some : 0 < decay k) (less : 2 * (decay k - 1) ^ step ≤ decay k ^ step) where
   halved : (s long all : ℕ) → TailIsAtMost k (step * s) long all → long * 2 ^ s ≤ all
   halved s long all tail =
-      le_of_mul-le-mul_left
-      (halved-sum (decay k ^ (step * s)) ((decay k - 1) ^ (step * s)) (2 ^ s) long all (halves step (decay k) (decay k - 1) s less) tail)
-      (one-le-pow (step * s) (decay k) some)
+      let more = mul-le-mul_left (2 ^ s) tail in
+      let most = mul-le-mul_right all (halves step (decay k) (decay k - 1) s less) in
+      le_of_mul-le-mul_left {k = decay k ^ (step * s)} (grind arith) (one-le-pow (step * s) (decay k) some)
 
   pub rare_probes : AtLoad k (LongProbesAreRare step)
   rare_probes share m n few empty s = halved s _ _ (tail_law k (step * s) two share m n few empty)
@@ -127,3 +121,5 @@ half_full_tables = up_to_half (LongTablesAreRare 4) (rare_tables 2 4 (omega arit
 
 pub capacity_tables : UpToCapacity (LongTablesAreRare 20)
 capacity_tables = up_to_capacity (LongTablesAreRare 20) (rare_tables 4 20 (omega arith) (omega arith) (leb-true _ _ refl))
+
+pub ruleset tail_laws = (tail_law, longest_law, half_full_probes, capacity_probes, half_full_tables, capacity_tables)

@@ -1,6 +1,6 @@
 -- What a step does to pairs and capacity: it puts a pair, or keeps the capacity and adds none, or shrinks. `Reserve` is left
 -- out.
-use Rattle.std.proofs.Common.{◌≡◌, ℕ, ◌+◌, ◌≤◌, nat_lt, ◌⊎◌, inl, inr, Bool, true, false, cond, length, Option, None, Some, ap, refl, arith}
+use Rattle.std.proofs.Common.{◌≡◌, ℕ, ◌+◌, ◌≤◌, ◌⊎◌, inl, inr, Bool, true, false, length, Option, None, Some, arith}
 use Rattle.std.proofs.Common.{if◌then◌else◌}
 use Rattle.std.proofs.lemmas.Grind.{common_steps}
 use Rattle.std.specs.Prelude.{IfSome, MatchBool}
@@ -17,23 +17,13 @@ use Rattle.halfbrown.specs.Run.{Step, Executes, IsValidStep, Leaves, is_shrink}
 use Rattle.halfbrown.proofs.callers.Pairs.{len_taken}
 use Rattle.half_laws.specs.RunLaws.{is_reserve}
 
-not_less : (a b : ℕ) → nat_lt a b ≡ false → b ≤ a
-not_less a b e = grind (arith, nat_tests)
-
-cond_least : (held : Bool) (n len : ℕ) → n + cond held 1 0 ≡ len → n ≤ len
-cond_least true n len e = omega arith
-cond_least false n len e = omega arith
-
 module _ {K V S : Type 0} where
   -- capacity is asked only for one pair more, and only if none is left
   abbrev pub IsDue : State K V S → Option ℕ → Type 0
   IsDue m needs = IfSome needs (λ n. (n ≡ length m.pairs + 1) × (m.capacity ≤ length m.pairs))
 
   addition_due : (m : State K V S) → IsDue m (capacity_for_growth m)
-  addition_due m = by (nat_lt (length m.pairs) m.capacity) (not_less (length m.pairs) m.capacity) where
-    by : (few : Bool) → (few ≡ false → m.capacity ≤ length m.pairs) → IsDue m (if few then None else Some (length m.pairs + 1))
-    by true h = tt
-    by false h = (refl, h refl)
+  addition_due m = grind (arith, common_steps, nat_tests)
 
   held_due : (m : State K V S) (held : Bool) → IsDue m (if held then None else capacity_for_growth m)
   held_due m true = tt
@@ -58,11 +48,7 @@ module _ {K V S : Type 0} (limit : ℕ) (eq : K → K → Bool) where
   Changes old command new = PutsDue old new ⊎ (Keeps old new ⊎ ((is_shrink command ≡ true) × IsShrunk limit old new))
 
   keeps_all : (old new : State K V S) → new ≡ old → Keeps old new
-  keeps_all old new same = record {
-    form = ap (λ m. m.is_vec) same;
-    capacity = ap (λ m. m.capacity) same;
-    len = omega (arith, ap (λ m. length m.pairs) same);
-  }
+  keeps_all old new same = grind (arith, common_steps)
 
   puts_due : (old new : State K V S) (k : K) (v : V) (needs : Option ℕ) → IsDue old needs
       → Puts limit eq old k v (if is_full limit old then Some (limit + 1) else needs) new → PutsDue old new
@@ -83,7 +69,7 @@ module _ {K V S : Type 0} (limit : ℕ) (eq : K → K → Bool) where
 
   leaves_changed : (old new : State K V S) (command : Command K V) → is_reserve command ≡ false → Leaves limit eq old command new
       → Changes old command new
-  leaves_changed old new command none leaves = grind (arith, common_steps, cond_least, held_changes, keeps_all, len_taken, puts_any, puts_new)
+  leaves_changed old new command none leaves = grind (arith, common_steps, held_changes, keeps_all, len_taken, puts_any, puts_new)
 
   changes_by : (old new : State K V S) (command : Command K V) (reply : Reply K V) → Executes limit eq old command reply new
       → is_reserve command ≡ false → Changes old command new

@@ -1,6 +1,6 @@
 -- The laws of form and of hashes, by induction over the steps.
 use Rattle.std.proofs.Common.{◌≡◌, ◌∙◌, ℕ, ◌+◌, ◌*◌, ◌≤◌, Bool, true, false, not, ◌&&◌, ◌||◌, ◌==◌, List, [], ◌∷◌, length, fold, count_by, cond}
-use Rattle.std.proofs.Common.{Option, None, Some, unwrap_or, ap, refl, arith, if◌then◌else◌}
+use Rattle.std.proofs.Common.{Option, None, Some, unwrap_or, ap, refl, arith}
 use Rattle.std.proofs.lemmas.Grind.{common_steps}
 use Rattle.std.specs.List.{list_any}
 use Rattle.std.specs.Option.{option_or}
@@ -10,7 +10,7 @@ use Rattle.halfbrown.specs.State.{State}
 use Rattle.halfbrown.proofs.lemmas.map.Growth.{form_stays}
 use Rattle.halfbrown.proofs.lemmas.run.Runs.{neither, steps_pay_two, table_stays}
 use Rattle.halfbrown.proofs.lemmas.run.Steps.{form_unshrunk, asked_of_step, most_asked, switch_left_most}
-use Rattle.half_laws.specs.RunLaws.{form_changed, goes_back, FormLaw, SwitchLaw, TableLaw, OneSwitchLaw, UnswitchedLaw, NothingHashedLaw, HashesLaw, AmortizedHashesLaw}
+use Rattle.half_laws.specs.RunLaws.{form_changed, FormLaw, SwitchLaw, TableLaw, OneSwitchLaw, UnswitchedLaw, NothingHashedLaw, HashesLaw, AmortizedHashesLaw}
 
 -- the last change counts
 last_of_both : (last earlier : Option Bool) (first : Bool)
@@ -21,11 +21,6 @@ last_of_both (Some is_vec) earlier first = refl
 -- nothing switches if neither a step nor what follows it does
 neither_switches : (v now later : Bool) → ((v && not now) && not later) ≡ (v && not (now || later))
 neither_switches v now later = grind (arith, common_steps)
-
--- a vector that does not switch stays one
-vector_stays : (back : Bool) → unwrap_or (if back then Some true else None) true ≡ true
-vector_stays true = refl
-vector_stays false = refl
 
 -- one switch, or none
 abbrev once_if : Bool → ℕ
@@ -115,9 +110,9 @@ module _ {K V S : Type 0} (limit : ℕ) (eq : K → K → Bool) where
     unswitched_law old new (s ∷ steps) lead form none =
         let parts = neither (switches limit s) (list_any (switches limit) steps) none in
         let was = ap (λ m. m.is_vec) lead.0 ∙ form in
-        let stays : unwrap_or (form_changed limit s) s.before.is_vec ≡ unwrap_or (if goes_back s then Some true else None) true =
-        λ i. unwrap_or (if parts.0 i then Some false else if goes_back s then Some true else None) (was i) in
-        let next : s.after.is_vec ≡ true = form_of_step s lead.1 ∙ stays ∙ vector_stays (goes_back s) in
+        let next : s.after.is_vec ≡ true = let now = form_of_step s lead.1 in grind (arith, common_steps) in
         let nothing : most_asked limit (switches limit s) s.before.is_vec ≡ 0 = λ i. most_asked limit (parts.0 i) (was i) in
         let rest = unswitched_law s.after new steps lead.3 next parts.1 in
         (rest.0, omega (arith, asked_of_step limit eq hash s lead.1, nothing, rest.1))
+
+pub ruleset step_laws = (form_law, switch_law, one_switch_law, table_law, nothing_hashed_law, amortized_hashes_law, hashes_law)

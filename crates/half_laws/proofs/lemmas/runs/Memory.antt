@@ -1,6 +1,6 @@
 -- How much capacity and memory a run leaves, by induction over the steps.
-use Rattle.std.proofs.Common.{◌≡◌, ℕ, zero, suc, ◌+◌, ◌*◌, ◌≤◌, max, inl, inr, Bool, true, false, ◌&&◌, List, [], ◌∷◌, length, fold, Option}
-use Rattle.std.proofs.Common.{None, Some, sym, ap, refl, subst, arith, if◌then◌else◌}
+use Rattle.std.proofs.Common.{◌≡◌, ℕ, zero, suc, ◌+◌, ◌*◌, ◌≤◌, max, inl, inr, Bool, true, false, List, [], ◌∷◌, length, fold, Option}
+use Rattle.std.proofs.Common.{Some, sym, ap, subst, arith, if◌then◌else◌}
 use Rattle.std.proofs.lemmas.Grind.{common_steps}
 use Rattle.half_store.specs.Capacity.{IsBucketCount, capacity_of, buckets_of, bucket_count_for_one_more, least_buckets, least_table_capacity}
 use Rattle.half_store.specs.Capacity.{least_capacity, is_vec_shrunk}
@@ -24,10 +24,6 @@ unfolding least_buckets
 capacity_for-most zero = omega arith
 capacity_for-most (suc n) = more_most n (least_buckets n) (buckets_for-least n).count (capacity_for-most n)
 
-pub first_of_both : (a b : Bool) → (a && b) ≡ true → a ≡ true
-first_of_both true b both = refl
-first_of_both false b both = both
-
 -- the most of all is at least that of the beginning
 most_least : {X : Type 0} (f : X → ℕ) (xs : List X) (n : ℕ) → n ≤ fold (λ most x. max most (f x)) n xs
 most_least f [] n = omega arith
@@ -48,12 +44,7 @@ bytes-le key value false capacity most few = omega (arith, columns-le key value 
 module _ {K V S : Type 0} (limit : ℕ) (eq : K → K → Bool) where
   switch_due : (m : State K V S) → IsValid limit eq m → (needs : Option ℕ) → IsDue m needs
       → IsDue m (if is_full limit m then Some (limit + 1) else needs)
-  switch_due m state needs due = by (is_full limit m) (λ e. e) where
-    by : (full : Bool) → (full ≡ true → is_full limit m ≡ true) → IsDue m (if full then Some (limit + 1) else needs)
-    by true h =
-        let len = full_len limit m (h refl) in
-        (omega (arith, len), omega (arith, len, state.vector_capacity (first_of_both m.is_vec _ (h refl))))
-    by false h = due
+  switch_due m state needs due = grind (arith, common_steps, full_len)
 
   -- the capacity after a step: what it was, or at most eight pairs more than twice the pairs
   abbrev IsModest : State K V S → ℕ → Type 0
@@ -61,9 +52,7 @@ module _ {K V S : Type 0} (limit : ℕ) (eq : K → K → Bool) where
 
   after_most : (old : State K V S) (is_vec : Bool) (needs : Option ℕ) → IsDue old needs
       → IsModest old (capacity_after limit is_vec old.capacity needs)
-  after_most old is_vec None due = omega arith
-  after_most old true (Some n) due = omega (arith, due.0, due.1)
-  after_most old false (Some n) due = omega (arith, due.0, capacity_for-most n)
+  after_most old is_vec needs due = grind (arith, common_steps, capacity_for-most)
 
   least_most : (old : State K V S) (is_vec : Bool) → IsModest old (least_capacity is_vec (length old.pairs))
   least_most old true = omega arith

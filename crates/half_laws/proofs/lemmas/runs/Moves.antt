@@ -1,6 +1,6 @@
 -- How many pairs a run moves: each step pays two, and what a map has paid and not used is its credit.
-use Rattle.std.proofs.Common.{◌≡◌, ◌∙◌, ℕ, suc, ◌+◌, ◌-◌, ◌*◌, ◌≤◌, nat_lt, ◌==◌, inl, inr, Bool, true, false, true≢false, not, ◌&&◌, cond, List}
-use Rattle.std.proofs.Common.{[], ◌∷◌, length, sum_by, Option, Some, ap, sym, refl, subst, arith, if◌then◌else◌}
+use Rattle.std.proofs.Common.{◌≡◌, ℕ, suc, ◌+◌, ◌-◌, ◌*◌, ◌≤◌, nat_lt, ◌==◌, inl, inr, Bool, true, false, List}
+use Rattle.std.proofs.Common.{[], ◌∷◌, length, sum_by, Option, ap, sym, refl, subst, arith, if◌then◌else◌}
 use Rattle.std.proofs.lemmas.Grind.{common_steps}
 use Rattle.std.proofs.lemmas.Bool.{cases_lt, eq-eqb, le-ltb}
 use Rattle.std.proofs.lemmas.List.Sums.{sum_by-cons}
@@ -14,8 +14,8 @@ use Rattle.halfbrown.proofs.callers.Pairs.{len_put}
 use Rattle.halfbrown.proofs.lemmas.map.Growth.{full_len, form_stays, and_false}
 use Rattle.halfbrown.proofs.lemmas.run.Runs.{neither}
 use Rattle.half_laws.specs.RunLaws.{MovesLaw, is_reserve, has_reserve, moved}
-use Rattle.half_laws.proofs.lemmas.runs.Memory.{first_of_both}
-use Rattle.half_laws.proofs.lemmas.runs.Changes.{IsDue, PutsDue, Changes, step_changes}
+use Rattle.std.proofs.lemmas.Bool.{and_parts}
+use Rattle.half_laws.proofs.lemmas.runs.Changes.{IsDue, PutsDue, step_changes}
 
 -- twice the capacity, when a table grows
 double : (m : ℕ) → IsBucketCount m → 2 * capacity_of m ≤ capacity_of (next_bucket_count m)
@@ -42,12 +42,6 @@ budget_high limit capacity high = rw (le-ltb capacity limit high) refl
 budget_most : (limit : ℕ) (is_vec : Bool) (capacity : ℕ) → budget limit is_vec capacity ≤ 2 * limit
 budget_most limit is_vec capacity = grind (arith, common_steps)
 
-cond_most : (held : Bool) (n len : ℕ) → n ≡ cond held len (len + 1) → n ≤ len + 1
-cond_most held n len e = grind (arith, common_steps)
-
-moved_by : (same : Bool) (len : ℕ) → (if same then 0 else len) ≤ len
-moved_by same len = grind (arith, common_steps)
-
 module _ {K V S : Type 0} (limit : ℕ) (eq : K → K → Bool) where
   -- the pairs that are moved between two states
   abbrev moved_from : State K V S → State K V S → ℕ
@@ -66,7 +60,7 @@ module _ {K V S : Type 0} (limit : ℕ) (eq : K → K → Bool) where
   -- a step that adds one pair at most
   module _ (old new : State K V S) (state : IsValid limit eq old) (few : length new.pairs ≤ length old.pairs + 1) where
     moves : moved_from old new ≤ length old.pairs
-    moves = moved_by (new.capacity == old.capacity) (length old.pairs)
+    moves = grind (arith, common_steps)
 
     -- the capacity stays
     stays_pays : new.is_vec ≡ old.is_vec → new.capacity ≡ old.capacity → Pays old new
@@ -74,7 +68,7 @@ module _ {K V S : Type 0} (limit : ℕ) (eq : K → K → Bool) where
         omega (arith, moved_none old new capacity, ap (λ v. budget limit v new.capacity) form, ap (budget limit old.is_vec) capacity)
 
     switch_pays : is_full limit old ≡ true → new.is_vec ≡ false → new.capacity ≡ least_table_capacity (limit + 1) → Pays old new
-    switch_pays full form capacity = grind (arith, common_steps, buckets_for-least, budget_high, first_of_both, full_len, moves)
+    switch_pays full form capacity = grind (arith, common_steps, buckets_for-least, budget_high, and_parts, full_len, moves)
 
     vector_pays : is_full limit old ≡ false → old.is_vec ≡ true → new.is_vec ≡ old.is_vec → old.capacity ≤ length old.pairs
         → new.capacity ≡ grown_capacity limit old.capacity (length old.pairs + 1) → Pays old new
@@ -89,27 +83,14 @@ module _ {K V S : Type 0} (limit : ℕ) (eq : K → K → Bool) where
     grown_pays full form needs due after = grind (arith, common_steps, stays_pays, table_pays, vector_pays)
 
     put_pays : (put : PutsDue limit eq old new) → Pays old new
-    put_pays put = by (is_full limit old) (λ e. e) (λ e. e) put.puts.form put.puts.capacity where
-      by : (full : Bool) → (full ≡ true → is_full limit old ≡ true) → (full ≡ false → is_full limit old ≡ false)
-          → new.is_vec ≡ (old.is_vec && not full)
-          → new.capacity ≡ capacity_after limit (old.is_vec && not full) old.capacity (if full then Some (limit + 1) else put.needs) → Pays old new
-      by true yes_full no_full form after =
-          let table = and_false old.is_vec in
-          switch_pays (yes_full refl) (form ∙ table) (after ∙ ap (λ v. capacity_after limit v old.capacity (Some (limit + 1))) table)
-      by false yes_full no_full form after =
-          let stays = sym (form_stays old.is_vec false refl) in
-          grown_pays (no_full refl) (form ∙ stays) put.needs put.due (after ∙ ap (λ v. capacity_after limit v old.capacity put.needs) stays)
+    put_pays put = grind (arith, common_steps, switch_pays, grown_pays, form_stays, and_false)
 
   put_few : (old new : State K V S) → PutsDue limit eq old new → length new.pairs ≤ length old.pairs + 1
-  put_few old new put = grind (arith, common_steps, cond_most, len_put)
+  put_few old new put = grind (arith, common_steps, len_put)
 
   step_pays : (s : Step K V S) → IsValid limit eq s.before → IsValidStep limit eq s → is_shrink s.command ≡ false → is_reserve s.command ≡ false
       → Pays s.before s.after
-  step_pays s state step no_shrink no_reserve = by (step_changes limit eq s step no_reserve) where
-    by : Changes limit eq s.before s.command s.after → Pays s.before s.after
-    by (inl put) = put_pays s.before s.after state (put_few s.before s.after put) put
-    by (inr (inl keeps)) = stays_pays s.before s.after state (omega (arith, keeps.len)) keeps.form keeps.capacity
-    by (inr (inr has_shrink)) = absurd (true≢false (sym has_shrink.0 ∙ no_shrink))
+  step_pays s state step no_shrink no_reserve = grind (arith, common_steps, step_changes, put_pays, put_few, stays_pays)
 
   steps_pay : (old new : State K V S) (steps : List (Step K V S)) → StepsLead limit eq old steps new → IsValid limit eq old
       → has_shrink (commands_of steps) ≡ false → has_reserve (commands_of steps) ≡ false → sum_by moved steps ≤ 2 * length steps + credit old

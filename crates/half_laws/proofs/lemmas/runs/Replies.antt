@@ -1,6 +1,6 @@
 -- What decides the replies: form and pairs before a command, the command, and the refusal. They also decide form and pairs
 -- after it.
-use Rattle.std.proofs.Common.{◌≡◌, ◌∙◌, ℕ, Bool, not, ◌&&◌, List, [], ◌∷◌, Option, None, Some, unwrap_or, arith, ap, sym, refl, if◌then◌else◌}
+use Rattle.std.proofs.Common.{◌≡◌, ℕ, Bool, not, ◌&&◌, List, [], ◌∷◌, Option, None, Some, unwrap_or, arith, ap, refl, if◌then◌else◌}
 use Rattle.std.proofs.lemmas.Grind.{common_steps}
 use Rattle.half_store.specs.declared.refusal.Refusal.{Refusal}
 use Rattle.halfbrown.specs.declared.run.Command.{Command}
@@ -51,10 +51,7 @@ module _ {K V S : Type 0} (limit : ℕ) (eq : K → K → Bool) where
   step_alike s t s_step t_step alike command refusal form = grind (arith, common_steps, answered, form_of_step, not, unwrap_or)
 
   same_alike : (a b c d : State K V S) → IsAlike a b → c ≡ a → d ≡ b → IsAlike c d
-  same_alike a b c d alike left right = record {
-    form = ap (λ m. m.is_vec) left ∙ alike.form ∙ sym (ap (λ m. m.is_vec) right);
-    pairs = ap (λ m. m.pairs) left ∙ alike.pairs ∙ sym (ap (λ m. m.pairs) right);
-  }
+  same_alike a b c d alike left right = record { form = cc; pairs = cc }
 
   same_outcome : (s t : Step K V S) (ss ts : List (Step K V S)) → outcomes_of (s ∷ ss) ≡ outcomes_of (t ∷ ts)
       → ◌≡◌ {A = Option Refusal × Bool} (refusal_in s.reply, is_shrink s.command && says_vec s.reply)
