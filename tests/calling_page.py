@@ -1,5 +1,5 @@
-"""What CALLING shows as it stands in the sources: the clauses of its calls, the words and values that these name, and a list of
-all calls.
+"""What a page CALLING shows as it stands in the sources: the clauses of its calls, the words and values that these name, and a
+list of all calls.
 
 A word is a record, a data type or a name for what holds. If only clauses name it, or only one other word, it stands below the
 first of these, and otherwise in the list of words. A value is a number, a list or a test, and stands with its comment.
@@ -10,8 +10,9 @@ import pathlib
 import re
 import textwrap
 
-CRATE = pathlib.Path(__file__).resolve().parent.parent / "crates/halfbrown"
-SPECS = [CRATE.parent / f"half_store/specs/{it}.antt" for it in ("Capacity", "Refusal")] + sorted(CRATE.glob("specs/*.antt"))
+CRATES = pathlib.Path(__file__).resolve().parent.parent / "crates"
+# The crates that have such a page, and the type of each whose calls stand there without its name.
+TYPES = {"halfbrown": "LimitedHashMap", "half_set": "HashSet", "json_value": "Value"}
 # No clause or field of such a name is printed, and no starred clause.
 LEFT_OUT = re.compile(r"(?:(?:requires|ensures) ?)?(?:\*|(?:cost|keeps|runs|same_map|small|valid|values_run)\b)")
 # Such a word is not printed: a line by hand says in short what it says, or no caller has to know it.
@@ -48,10 +49,11 @@ def in_full(line, name, known):
     return re.sub(rf"(?<![\w.'])(?:{'|'.join(known)})(?![\w':])", full, line)
 
 
-def definitions():
+def definitions(crate):
     """The words of the specs, and of the store's on capacity, by name: what each line says. The values: their comments."""
     words, values = {}, {}
-    for path in SPECS:
+    of_store = [CRATES / f"half_store/specs/{it}.antt" for it in ("Capacity", "Refusal")]
+    for path in of_store + sorted(crate.glob("specs/*.antt")):
         found = {it[4]: it for it in DEFINITION.finditer(path.read_text())}
         known = {name: modules(it) for name, it in found.items()}
         for name, (comment, _, kind, _, binders, text) in ((name, it.groups()) for name, it in found.items()):
@@ -69,12 +71,15 @@ def definitions():
     return {name: lines for name, lines in words.items() if name not in NOT_OPENED}, values
 
 
-def quoted(call):
+def sources(crate):
+    return sorted(crate.glob("src/**/*.rt"), key=lambda it: it.with_suffix("").parts)
+
+
+def quoted(crate, call):
     """The signature of a call, and each of its clauses that the page shows."""
     kind, _, name = call.rpartition("::")
-    texts = (path.read_text() for path in sorted(CRATE.glob("src/**/*.rt"), key=lambda it: it.with_suffix("").parts))
-    impls = (it for text in texts for it in re.split(r"^(?=impl\b)", text, flags=re.M)[1:])
-    owned = (it for it in impls if re.match(rf"impl\b[^{{]*?> {kind or 'LimitedHashMap'}<", it))
+    impls = (it for path in sources(crate) for it in re.split(r"^(?=impl\b)", path.read_text(), flags=re.M)[1:])
+    owned = (it for it in impls if re.match(rf"impl(<[^{{]*?>)? {kind or TYPES[crate.name]}\b", it))
     found = next(filter(None, (re.search(rf"^    pub fn {name}\b(.*?)^    {{$", it, re.M | re.S) for it in owned)))[1]
     head, *clauses = re.split(r"(?=\b(?:requires|ensures)\b)", " ".join(re.sub("//.*", "", found).split()))
     yield f"fn {call}{head.rstrip(', ')}".replace("( ", "(").replace(", )", ")")
@@ -86,9 +91,10 @@ def quoted(call):
 class Page:
     """What the page has to show."""
 
-    def __init__(self, text):
-        self.words, self.values = definitions()
-        self.clauses = {it[1]: [*quoted(it[1])] for it in CALL.finditer(text)}
+    def __init__(self, text, crate):
+        self.crate = crate
+        self.words, self.values = definitions(crate)
+        self.clauses = {it[1]: [*quoted(crate, it[1])] for it in CALL.finditer(text)}
         found = {name for clauses in self.clauses.values() for name in self.named(clauses[1:])}
         namers = collections.Counter(found)  # The clauses count as one.
         while found:
@@ -124,8 +130,8 @@ class Page:
 
     def list(self, found):
         """A list of the page, made anew."""
-        lists = {"Words": map(self.word, self.listed), "Values": self.named_values(found.string), "All calls": all_calls()}
-        return found[1] + "".join(lists[found[2]])
+        lists = {"Words": map(self.word, self.listed), "Values": self.named_values(found.string)}
+        return found[1] + "".join(lists.get(found[2]) or all_calls(self.crate))
 
     def named_values(self, text):
         """The values that the clauses and words of the page name."""
@@ -135,9 +141,9 @@ class Page:
                 yield wrapped(self.values[name])
 
 
-def all_calls():
+def all_calls(crate):
     """The calls of each module, by the type that has them; a star stands behind each that has a counted call."""
-    for path in sorted(CRATE.glob("src/**/*.rt"), key=lambda it: it.with_suffix("").parts):
+    for path in sources(crate):
         text, calls = path.read_text(), {}
         for it in re.finditer(r"^( *)pub fn (\w+)", text, re.M):
             owner = re.findall(r"^impl\b[^{]*?> (\w+)<", text[: it.start()], re.M)[-1] if it[1] else ""
@@ -145,18 +151,29 @@ def all_calls():
         for owner, names in calls.items():
             plain = [it for it in names if it.removesuffix("_counted") not in {*names} - {it}]
             stars = [f"{it}{'*' * (f'{it}_counted' in names)}" for it in plain]
-            module = path.relative_to(CRATE / "src").with_suffix("").as_posix()
+            module = path.relative_to(crate / "src").with_suffix("").as_posix()
             yield wrapped(f"{module:<18}{owner}{': ' * bool(owner)}{' '.join(stars)}", further=" " * 20)
 
 
-def written(text):
+def pages():
+    return [CRATES / crate / "CALLING.md" for crate in TYPES]
+
+
+def written(page):
     """The page, printed anew but for what is written by hand."""
-    page = Page(text)
-    return LIST.sub(page.list, CALL.sub(page.call, text))
+    text = page.read_text()
+    shown = Page(text, page.parent)
+    return LIST.sub(shown.list, CALL.sub(shown.call, text))
 
 
-def claims(text):
+def claims(page):
     """Of each call and each list of the page, whether it stands there as it is printed."""
-    shown, printed = ([*CALL.finditer(it), *LIST.finditer(it)] for it in (text, written(text)))
-    yield from ((f"CALLING: {old[0].splitlines()[0]}", old[0] == new[0]) for old, new in zip(shown, printed))
-    yield "CALLING: its lists", [it[2] for it in LIST.finditer(text)] == ["Words", "Values", "All calls"]
+    text = page.read_text()
+    shown, printed = ([*CALL.finditer(it), *LIST.finditer(it)] for it in (text, written(page)))
+    yield from ((f"{page.parent.name}: {old[0].splitlines()[0]}", old[0] == new[0]) for old, new in zip(shown, printed))
+    if page.parent.name == "halfbrown":
+        yield "CALLING: its lists", [it[2] for it in LIST.finditer(text)] == ["Words", "Values", "All calls"]
+    else:  # It has every call.
+        calls = [name for path in sources(page.parent) for name in re.findall(r"^    pub fn (\w+)", path.read_text(), re.M)]
+        yield f"{page.parent.name}: its calls", {*calls} == {it[1] for it in CALL.finditer(text)}
+        yield f"{page.parent.name}: its words", bool(Page(text, page.parent).listed) == ("\n## Words\n" in text)

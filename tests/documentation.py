@@ -160,14 +160,14 @@ def examples():
 
 CALLING, USING, PROOFS = (TOP / f"crates/halfbrown/{it}.md" for it in ("CALLING", "USING", "PROOFS"))
 if sys.argv[1:] == ["--write"]:
-    sys.exit(not CALLING.write_text(calling_page.written(CALLING.read_text())))
+    sys.exit(not all(page.write_text(calling_page.written(page)) for page in calling_page.pages()))
 git = tools.said_by(["git", "ls-files", "-co", "--exclude-standard"], cwd=TOP)
 files = [it for it in git.splitlines() if (TOP / it).exists()]
 tree = "\n".join(f"/{it}" for it in files)
 claims = [(f"{it}: {what}", stands) for it in files if it.endswith(".md") for what, stands in named(TOP / it, tree)]
 for shown in (imports, snippets, lemmas):
-    claims += [it for page in (CALLING, USING, PROOFS) for it in shown(page.read_text())]
-claims += [*readme((TOP / "README.md").read_text()), *calling_page.claims(CALLING.read_text()), *copied(), *examples()]
+    claims += [it for page in (*calling_page.pages(), USING, PROOFS) for it in shown(page.read_text())]
+claims += [*readme((TOP / "README.md").read_text()), *(it for page in calling_page.pages() for it in calling_page.claims(page)), *copied(), *examples()]
 claims += [(path.name, drawn == path.read_text()) for path, drawn in picture.pictures()]
 table = (TOP / "docs/TABLE.md").read_text()
 claims += [(row, f"{row}\n" in table) for load, _ in picture.LOADS.values() for row in picture.tail_rows(load)]

@@ -1,6 +1,6 @@
 //! The words that stand in buckets: 0 if a bucket is empty, otherwise the entry index of its pair and one more.
 //!
-//! A word takes four bytes if that is enough for as many pairs as the buckets may hold, and eight elsewhere. Nothing lends
+//! A word takes four bytes if that is enough for as many pairs as the buckets may hold, and otherwise eight. Nothing lends
 //! the words: each is read by `word_at`, which counts it.
 ghost use Rattle.std.specs.Prelude.{◌≡◌, ℕ, ◌-◌, ◌^◌, ◌<◌, ◌≤◌, List, [], length, replicate};
 ghost use Rattle.std.specs.Prelude.{slice_index, slice_set, IfOk, vec_len, vec_capacity};
@@ -14,7 +14,7 @@ use crate::capacity::capacity_of;
 use std::alloc::{AllocError, Global};
 use std::marker::Model;
 
-/// Words of one size, in order. Searches and probes read buckets through this trait alone, so a test can hand them words that
+/// Words of one size, in order. Searches and probes read buckets only through this trait, so a test can hand them words that
 /// count how often they are read.
 pub trait Words {
     // the words

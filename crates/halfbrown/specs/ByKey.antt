@@ -9,7 +9,7 @@ abbrev pub keyed_by : {K B V : Type 0} → (K → B) → List (K × V) → List 
 keyed_by {K} {B} {V} read pairs = map {A = K × V} {B = B × V} (λ p. (read p.0, p.1)) pairs
 
 module _ {K : Type 0} (eq : K → K → Bool) where
-  -- the keys, with k at the end where none equals it
+  -- the keys, with k at the end if none equals it
   abbrev pub add_key : List K → K → List K
   add_key keys k = if list_any (eq k) keys then keys else keys ++ k ∷ []
 

@@ -59,7 +59,7 @@ module _ {K V S L H : Type 0} {e : EqGhosts K} {h : HashGhosts K} {b : HasherGho
   raw_view (raw.Occupied o) = occupied o
   raw_view (raw.Vacant v) = raw_vacant v
 
-  -- what `entry` returns for k: where it is granted the entry of k, in the map with capacity for its pair (a full vector is a table now);
+  -- what `entry` returns for k: if it is granted, the entry of k, in the map with capacity for its pair (a full vector is a table now);
   -- if it is refused the key and the reason
   pub record MakesEntryOrHandsBack (limit : ℕ) (eq : K → K → Bool) (m : MutBor (State K V S)) (k : K) (result : Result (Entry K V S L H e h b l) (RefusedKey K)) : Type 0 where
     pub same_map : IfOk result (λ entry. (view entry).map.ghost_name ≡ m.ghost_name)

@@ -193,9 +193,9 @@ impl<K: Eq + Hash, V, S: KeyHasher<K>, L: Limit> LimitedHashMap<K, V, S, L> {
         self.swap_remove_index(self.len().saturating_sub(1))
     }
 
-    /// Removes all but the first pairs, of which this many stay, the last one first. If no more are held, nothing changes.
-    /// The form and the capacity stay. Nothing is hashed or compared, and no memory is needed. In a table the bucket of
-    /// each pair that goes is probed for.
+    /// Keeps the first `len` pairs, and removes the others, the last one first. If no more are held, nothing changes. The
+    /// form and the capacity stay. Nothing is hashed or compared, and no memory is needed. In a table the bucket of each
+    /// removed pair is probed for.
     ///
     /// ```
     /// ages.truncate(1);
