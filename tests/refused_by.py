@@ -76,7 +76,7 @@ def judge(edits, copy):
     check = Check(crate, modules)
     goals = [check.goal_of(it, edit.clause) for it, edit in zip(changed, edits)]
     if len(edits) == 1 and not goals[0]:
-        check = check if check.unread or not modules else Check(crate)
+        check = Check(crate) if modules else check
         goals = [check.goal_of(None, edits[0].clause)]
     lost = f"only a proof lost a name: {check.told[0][0]}" if check.told else "all is proved"
     return [(bool(goal), goal or check.unread or lost) for goal in goals]
