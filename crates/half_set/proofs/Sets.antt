@@ -1,5 +1,5 @@
 -- The values of a set after some are added, and when two sets are equal.
-use Rattle.std.proofs.Common.{◌≡◌, ◌↔◌, ℕ, ◌+◌, Bool, true, false, cond, List, [], ◌∷◌, ◌||◌, Option, is_some, IsTrue, sym, refl, ap, subst, ◌∙◌, arith, suc, length, Bor}
+use Rattle.std.proofs.Common.{◌≡◌, ◌↔◌, ℕ, ◌+◌, Bool, true, false, cond, List, [], ◌∷◌, ◌||◌, is_some, IsTrue, sym, refl, ap, subst, ◌∙◌, arith, suc, length, Bor}
 use denote.Param.Always.{always_mut, mut_next}
 use Rattle.std.proofs.iter.runs.Sources.{from_front}
 use Rattle.std.proofs.lemmas.Grind.{common_steps}
@@ -14,7 +14,6 @@ use Rattle.std.specs.List.Retain.{IsFiltered}
 use Rattle.std.specs.Map.{keys_of, remove_entry}
 use Rattle.std.specs.Map.Calls.{CallableOnEachPair, RetainsPairs, SomeCallAtPair}
 use Rattle.std.specs.Map.Iter.{TakesFirst, ShowsInOrder, deref}
-use Rattle.std.specs.Option.{option_eq}
 use Rattle.std.specs.Set.{is_member, remove_key, IsUnion}
 use Rattle.halfbrown.specs.ByKey.{add_key, add_keys}
 use Rattle.halfbrown.specs.Equality.{same_lookup, same_pairs-Decides}
@@ -35,6 +34,10 @@ module _ {T : Type 0} {eq : T → T → Bool} (laws : IsEquivalence eq) where
   pub union_added : (xs more : List T) → IsUnion eq xs more (add_keys eq xs more)
   union_added xs [] q = grind (arith, common_steps)
   union_added xs (k ∷ more) q = grind (arith, common_steps, union_added (add_key eq xs k) more q, member_added xs k q)
+
+  -- what was a member is one
+  pub member_kept : (xs more : List T) (q : T) → is_member eq xs q ≡ true → is_member eq (add_keys eq xs more) q ≡ true
+  member_kept xs more q held = union_added xs more q ∙ ap (λ b. b || is_member eq more q) held
 
 -- a removal from the map leaves the other members
 pub others_removed : {T V : Type 0} {eq : T → T → Bool} {test : T → Bool} (old new : List (T × V)) (x : T) → HasRemovedBy eq test old new
@@ -62,16 +65,12 @@ with_nothing-keys_of [] = refl
 with_nothing-keys_of (p ∷ pairs) = ap (λ ps. p ∷ ps) (with_nothing-keys_of pairs)
 
 module _ {T : Type 0} {eq : T → T → Bool} (laws : IsEquivalence eq) where
-  same_either : (a b : Option (Unit {0})) → (option_eq (λ x y. true) a b ≡ true) ↔ (is_some a ≡ is_some b)
-  same_either a b = grind (arith, common_steps)
-
   held_member : (xs : List T) (q : T) → is_some (value_of eq (with_nothing xs) q) ≡ is_member eq xs q
   held_member xs q = holds_by-any (eq q) (with_nothing xs) ∙ ap (list_any (eq q)) (keys_of-with_nothing xs)
 
   same_at : (xs ys : List T) (q : T)
       → (same_lookup eq (λ x y. true) (with_nothing xs) (with_nothing ys) q ≡ true) ↔ (is_member eq xs q ≡ is_member eq ys q)
-  same_at xs ys q = rw (← held_member xs q, ← held_member ys q)
-      (same_either (value_of eq (with_nothing xs) q) (value_of eq (with_nothing ys) q))
+  same_at xs ys q = grind (arith, common_steps, held_member xs q, held_member ys q)
 
   -- two lists have the same values exactly if each value is a member of both or of neither
   pub same_members : (xs ys : List T) → IsTrue (same_values eq xs ys) ↔ ((value : T) → is_member eq xs value ≡ is_member eq ys value)
@@ -124,4 +123,4 @@ pub full_where_held : {T V S : Type 0} (limit : ℕ) (eq : T → T → Bool) (m 
     → IsRefusal (capacity_for_insert limit eq m x) why → is_member eq (keys_of m.pairs) x ≡ true → length (keys_of m.pairs) ≡ limit
 full_where_held limit eq m x why is held = grind (arith, common_steps, holds_by-any (eq x) m.pairs, length-keys_of m.pairs)
 
-pub ruleset set_facts = (refusal_is, full_where_held, union_added, others_removed, keys_removed, keys_taken, shows_in_order, length-filter, count_by-le-length)
+pub ruleset set_facts = (refusal_is, full_where_held, union_added, member_kept, others_removed, keys_removed, keys_taken, shows_in_order, length-filter, count_by-le-length)

@@ -1,4 +1,5 @@
 pub mod Buffers
+pub mod Common
 pub mod LongLines
 pub mod Numerals
 pub mod Reading

@@ -1,17 +1,10 @@
 -- A line that is too long for a request is answered as its first bytes are.
-use Rattle.std.proofs.Common.{◌≡◌, ℕ, ◌+◌, ◌≤◌, List, [], ◌∷◌, ◌++◌, length, refl, ap}
-use Rattle.std.proofs.Common.{subst, inl, inr, arith, length-append, length-take-le, take_all}
-use Rattle.std.specs.Prelude.{codes}
+use Rattle.halfmap.proofs.Common.{◌≡◌, ℕ, ◌+◌, ◌≤◌, List, [], ◌∷◌, ◌++◌, length, refl, ap, subst, inl, inr, arith}
+use Rattle.halfmap.proofs.Common.{length-append, length-take-le, take_all, codes, State, AnswersLine, kept, WritesAfter}
+use Rattle.halfmap.proofs.Common.{WritesTwo, IsTextOf, Answer, Request, Insert, Get, Remove, Form}
 use Rattle.std.proofs.lemmas.Bool.{cases_lt, cases_eq}
 use Rattle.std.proofs.lemmas.List.{same_from_push}
-use Rattle.halfbrown.specs.State.{State}
-use Rattle.halfmap.specs.Answer.{AnswersLine}
 use Rattle.halfmap.specs.Line.{IsWithout, IsTextOfLine}
-use Rattle.halfmap.specs.Reading.{kept}
-use Rattle.halfmap.specs.Request.{WritesAfter, WritesTwo, IsTextOf}
-use Rattle.halfmap.specs.declared.answer.Answer.{Answer}
-use Rattle.halfmap.specs.declared.request.Request.{Request}
-use Rattle.halfmap.specs.declared.request.Request.TheVariants.{Insert, Get, Remove, Form}
 
 -- how long the text of a request is at most
 after_len : (letters text : List ℕ) (n : ℕ) → WritesAfter letters text n → length text ≤ length letters + 20

@@ -1,10 +1,8 @@
 -- A text of decimal digits is UTF-8.
-use Rattle.std.proofs.Common.{ℕ, List, [], ◌∷◌, arith}
+use Rattle.halfmap.proofs.Common.{ℕ, List, [], ◌∷◌, arith, AllDigits, IsNumeral, digit_from_value}
 use Rattle.std.specs.Str.{IsAscii, IsUtf8}
-use Rattle.std.specs.Str.Parse.{AllDigits, IsNumeral}
 use Rattle.std.proofs.lemmas.Str.{IsUtf8-from_ascii}
 use Rattle.std.proofs.lemmas.Str.Ascii.{IsAscii-nil, IsAscii-cons}
-use Rattle.std.proofs.lemmas.Str.Parse.{digit_from_value}
 
 pub digits_are_ascii : (ds : List ℕ) → AllDigits 10 ds → IsAscii ds
 digits_are_ascii [] h = IsAscii-nil

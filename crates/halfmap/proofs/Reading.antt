@@ -1,18 +1,12 @@
 -- Reading a line part by part.
-use Rattle.std.proofs.Common.{◌≡◌, ◌≢◌, ℕ, zero, suc, ◌-◌, ◌≤◌, Bool, true, List, [], ◌∷◌, ◌++◌, All, Result, Ok, Err, IfSome}
-use Rattle.std.proofs.Common.{length, take, refl, sym, ap, ◌∙◌, arith, append-nil, length-take-le}
-use Rattle.std.proofs.Math.Seq.{take-nil}
-use Rattle.std.specs.Prelude.{Option, IsErr, OnErr}
+use Rattle.halfmap.proofs.Common.{◌≡◌, ◌≢◌, ℕ, zero, suc, ◌-◌, ◌≤◌, Bool, true, List, [], ◌∷◌, ◌++◌, All, Result, Ok, Err}
+use Rattle.halfmap.proofs.Common.{IfSome, length, take, refl, sym, ap, ◌∙◌, arith, append-nil, length-take-le, take-nil, Option}
+use Rattle.halfmap.proofs.Common.{IsErr, OnErr, DropsConsumable, Keeps, Consumes, Consumes-nil, Consumes-kept, Consumes-trans}
+use Rattle.halfmap.proofs.Common.{Consumes_shown, Consumes_through, zero_unless_positive, common_steps, KEPT_BYTES, kept}
+use Rattle.halfmap.proofs.Common.{with_more, IsPartOfLine, ReadsPart, ReadsLine}
 use Rattle.std.specs.Io.{StartsWith}
-use Rattle.std.specs.Io.BufRead.{DropsConsumable}
-use Rattle.std.specs.Io.KnownBytes.{Keeps, Consumes}
-use Rattle.std.proofs.KnownBytes.{Consumes-nil, Consumes-kept, Consumes-trans}
-use Rattle.std.proofs.BufReadLemmas.{Consumes_shown, Consumes_through, zero_unless_positive}
 use Rattle.std.proofs.Transfers.{StopsAt-append}
-use Rattle.std.proofs.lemmas.Grind.{common_steps}
 use Rattle.std.proofs.lemmas.List.Elements.{All-nil, All-append}
-use Rattle.halfmap.specs.declared.lines.TheConstants.{KEPT_BYTES}
-use Rattle.halfmap.specs.Reading.{kept, with_more, IsPartOfLine, ReadsPart, ReadsLine}
 
 -- nothing was taken, and the line goes on
 pub reads_nothing : {E : Type 0} (old new : Option (List ℕ)) (r : Result Bool E) → Keeps old new → r ≢ Ok true → ReadsPart old new [] r

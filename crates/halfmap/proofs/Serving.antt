@@ -1,19 +1,10 @@
 -- A session, line by line.
-use Rattle.std.proofs.Common.{◌≡◌, ℕ, ◌<◌, Bool, true, false, List, [], ◌∷◌, ◌++◌, length, refl, sym, ap, subst, ◌∙◌, arith}
-use Rattle.std.proofs.Common.{append_assoc, append-nil, length-take, Some, None, IfSome}
-use Rattle.std.specs.Prelude.{Option, IsTrue, ◌↔◌}
-use Rattle.std.specs.Io.BufRead.{take_through, drop_through}
-use Rattle.std.specs.Io.KnownBytes.{Keeps, Appends}
-use Rattle.std.proofs.KnownBytes.{Appends-nil, Appends-kept, Appends-trans}
-use Rattle.std.proofs.BufReadLemmas.{take_through-nil}
-use Rattle.std.proofs.lemmas.Grind.{common_steps, flat_map-append}
-use Rattle.halfbrown.specs.State.{State}
-use Rattle.halfmap.specs.Answer.{AnswersLine}
-use Rattle.halfmap.specs.Reading.{kept, ReadsLine}
+use Rattle.halfmap.proofs.Common.{◌≡◌, ℕ, ◌<◌, Bool, true, false, List, [], ◌∷◌, ◌++◌, length, refl, sym, ap, subst, ◌∙◌, arith}
+use Rattle.halfmap.proofs.Common.{append_assoc, append-nil, length-take, Some, None, IfSome, Option, IsTrue, ◌↔◌, take_through}
+use Rattle.halfmap.proofs.Common.{drop_through, Keeps, Appends, Appends-nil, Appends-kept, Appends-trans, take_through-nil}
+use Rattle.halfmap.proofs.Common.{common_steps, flat_map-append, State, AnswersLine, kept, ReadsLine, Answer, KEPT_BYTES}
 use Rattle.halfmap.specs.Session.{lines_of, Session, Serves, ServesFromEmpty}
 use Rattle.halfmap.specs.Text.{line_of, output_of}
-use Rattle.halfmap.specs.declared.answer.Answer.{Answer}
-use Rattle.halfmap.specs.declared.lines.TheConstants.{KEPT_BYTES}
 
 -- the first line of a text, and the others
 lines_next : (x : ℕ) (xs : List ℕ) → lines_of (x ∷ xs) ≡ take_through 10 (x ∷ xs) ∷ lines_of (drop_through 10 (x ∷ xs))
@@ -57,19 +48,11 @@ none_taken (Some text) = refl
 
 line_taken : (input rest new : Option (List ℕ)) (lines : List (List ℕ)) (line : List ℕ) → 0 < length line
     → LinesTaken input lines rest → ReadsLine rest new line → LinesTaken input (lines ++ line ∷ []) new
-line_taken None rest new lines line some t r = tt
-line_taken (Some text) None new lines line some t r = absurd t
-line_taken (Some text) (Some rest) new lines line some t r =
-    subst (LinesTaken (Some text) (lines ++ line ∷ [])) (sym r.rest)
-    (t ∙ ap (λ l. lines ++ l) (first_line rest line some r.taken) ∙ sym (append_assoc lines (line ∷ []) (lines_of (drop_through 10 rest))))
+line_taken input rest new lines line some t r = grind (arith, common_steps, first_line, append_assoc)
 
 all_taken : (input rest new : Option (List ℕ)) (lines : List (List ℕ)) (line : List ℕ) → length line ≡ 0
     → LinesTaken input lines rest → ReadsLine rest new line → IfSome input (λ text. lines ≡ lines_of text)
-all_taken None rest new lines line none t r = tt
-all_taken (Some text) None new lines line none t r = absurd t
-all_taken (Some text) (Some rest) new lines line none t r =
-    let at_end : rest ≡ [] = take_through-nil 10 rest (ap length (sym r.taken) ∙ none) in
-    sym (t ∙ ap (λ l. lines ++ lines_of l) at_end ∙ append-nil lines)
+all_taken input rest new lines line none t r = grind (arith, common_steps, take_through-nil, append-nil)
 
 -- a line has a byte exactly if one is kept of it
 pub some_line : (more : Bool) (line whole : List ℕ) → line ≡ kept whole → (IsTrue more ↔ 0 < length line) → more ≡ true → 0 < length whole
@@ -114,18 +97,19 @@ module _ {S : Type 0} where
 pub serves_by : {S : Type 0} (input given : Option (List ℕ)) (first last : State ℕ ℕ S) (before was after left : Option (List ℕ))
     → input ≡ given → before ≡ was → first.pairs ≡ [] → first.is_vec ≡ true → first.capacity ≡ 0
     → Serves input first last before after → Keeps after left → ServesFromEmpty S given was left
-serves_by input given first last before was after left e f empty vector no_capacity s keeps = record {
-  first = first;
-  last = last;
-  empty = empty;
-  vector = vector;
-  no_capacity = no_capacity;
-  serves = record {
-    lines = s.lines;
-    answers = s.answers;
-    all_lines = subst (λ known. IfSome known (λ text. s.lines ≡ lines_of text)) e s.all_lines;
-    session = s.session;
-    written = subst (λ known. Appends known left (output_of s.answers)) f
-        (Appends-kept before after left (output_of s.answers) s.written keeps);
-  };
-}
+serves_by input given first last before was after left e f empty vector no_capacity s keeps =
+    let named = rw (e, f) at s in
+    record {
+      first = first;
+      last = last;
+      empty = empty;
+      vector = vector;
+      no_capacity = no_capacity;
+      serves = record {
+        lines = named.lines;
+        answers = named.answers;
+        all_lines = named.all_lines;
+        session = named.session;
+        written = Appends-kept was after left (output_of named.answers) named.written keeps;
+      };
+    }

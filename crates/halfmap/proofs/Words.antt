@@ -1,19 +1,13 @@
 -- Where a text is cut into words.
-use Rattle.std.proofs.Common.{ℕ, ◌+◌, false, List, [], ◌∷◌, ◌++◌, length, take, drop, ◌≡◌, sym, ◌∙◌, ap, subst, arith, zero-add, IfNone}
-use Rattle.std.proofs.Common.{IfSome}
-use Rattle.std.specs.Prelude.{Option, Some, None, position, nat_eq, codes}
+use Rattle.halfmap.proofs.Common.{ℕ, ◌+◌, false, List, [], ◌∷◌, ◌++◌, length, take, drop, ◌≡◌, sym, ◌∙◌, ap, subst, arith}
+use Rattle.halfmap.proofs.Common.{zero-add, IfNone, IfSome, Option, Some, None, position, nat_eq, codes, AllDigits}
+use Rattle.halfmap.proofs.Common.{drop-append_seam, take-append_seam, drop-append-add, Decides-eqb, nat_tests, strip_prefix_is}
+use Rattle.halfmap.proofs.Common.{digit_from_value, Writes, WritesAfter, WritesTwo, IsTextOf, is_space, Request, Insert, Get}
+use Rattle.halfmap.proofs.Common.{Remove, Form}
 use Rattle.std.specs.Cmp.Lexicographic.{pointwise}
-use Rattle.std.specs.Str.Parse.{AllDigits}
 use Rattle.std.specs.List.{position_from}
 use Rattle.std.specs.Int.{IsInRange}
-use Rattle.std.proofs.Math.Seq.{drop-append_seam, take-append_seam, drop-append-add}
 use Rattle.std.proofs.lemmas.Iterator.Adapters.{position_from-zero}
-use Rattle.std.proofs.lemmas.Bool.Decides.{Decides-eqb, nat_tests}
-use Rattle.std.proofs.lemmas.Slice.Eq.{strip_prefix_is}
-use Rattle.std.proofs.lemmas.Str.Parse.{digit_from_value}
-use Rattle.halfmap.specs.Request.{Writes, WritesAfter, WritesTwo, IsTextOf, is_space}
-use Rattle.halfmap.specs.declared.request.Request.{Request}
-use Rattle.halfmap.specs.declared.request.Request.TheVariants.{Insert, Get, Remove, Form}
 
 -- clauses on an answer: a fact that holds anyway, and one that follows from a call's clause
 pub none_then : {A X : Type 0} (r : Option A) → X → IfNone r X

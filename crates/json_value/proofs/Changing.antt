@@ -1,13 +1,10 @@
 -- Steps into a value, and what they lead to once another value is put there.
-use Rattle.std.proofs.Common.{◌≡◌, ◌≢◌, ℕ, List, [], ◌∷◌, Option, None, Some, OnSome}
-use Rattle.std.proofs.Common.{slice_get, Vec, Global, refl, sym, ap, ◌∙◌, arith, rules}
-use Rattle.std.specs.Borrow.{Bor}
-use Rattle.std.specs.Option.{MatchOption, option_copied, option_map_or}
+use Rattle.json_value.proofs.Common.{◌≡◌, ◌≢◌, ℕ, List, [], ◌∷◌, Option, None, Some, OnSome, slice_get, Vec, refl, sym, ap, ◌∙◌}
+use Rattle.json_value.proofs.Common.{arith, rules, Bor, MatchOption, option_copied, option_map_or, children, descendant, place}
+use Rattle.json_value.proofs.Common.{put_at, put_child, put_steps, steps_of, value_at, with_child, Value, the_lemmas}
+use Rattle.std.proofs.Common.{Global}
 use Rattle.std.specs.Vec.{with_item}
 use Rattle.json_value.proofs.Pointer.{child-at, children-List, value_at-no_slash}
-use Rattle.json_value.specs.Pointer.{children, descendant, place, put_at, put_child, put_steps, steps_of}
-use Rattle.json_value.specs.Pointer.{value_at, with_child}
-use Rattle.json_value.specs.declared.value.Value.{Value, the_lemmas}
 use Rattle.json_value.specs.declared.value.Value.TheViews.{List as list_of}
 
 after_some : {X P Q : Type 0} (o : Option X) → (P → Q) → OnSome o P → OnSome o Q

@@ -1,4 +1,5 @@
 pub mod Changing
+pub mod Common
 pub mod Merging
 pub mod PathFacts
 pub mod Placed

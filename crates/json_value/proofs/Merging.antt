@@ -1,11 +1,9 @@
 -- Members that are put one after another.
-use Rattle.std.proofs.Common.{◌≡◌, Result, Ok, Err, IfErr, IsErrAnd, true, refl, rules, sym, subst}
-use Rattle.json_value.specs.Members.{is_object, members_of, PutsFirst, IsRefusedMerge}
-use Rattle.json_value.specs.declared.value.Value.{Value, the_lemmas}
-use Rattle.json_value.specs.declared.value.Value.TheViews.{Object}
+use Rattle.json_value.proofs.Common.{◌≡◌, Result, Ok, Err, IfErr, IsErrAnd, true, refl, rules, sym, subst, is_object, PutsFirst}
+use Rattle.json_value.proofs.Common.{IsRefusedMerge, Value, the_lemmas, Object, Memory}
+use Rattle.json_value.specs.Members.{members_of}
 use Rattle.json_value.proofs.Writing.{Members}
 use Rattle.json_value.specs.declared.value.error.Error.{Error}
-use Rattle.json_value.specs.declared.value.error.Error.TheVariants.{Memory}
 
 -- an error that is one, and what holds besides
 pub err_also : {A E : Type 0} (P : E → Type 0) (Q : Type 0) (r : Result A E) → IsErrAnd r P → Q → IfErr r (λ e. P e × Q)

@@ -1,23 +1,17 @@
 -- For callers: which paths part, so that one leads where it led once `set_at` has put a value at the other.
-use Rattle.std.proofs.Common.{◌≡◌, ◌≢◌, ◌==◌, ℕ, zero, suc, not, Bool, true, false, cond, List, [], ◌∷◌, ◌++◌, Option, None, Some}
-use Rattle.std.proofs.Common.{◌<◌, length, String, Global, inl, inr, slice_get, option_and_then, refl, sym, ap, ◌∙◌, arith, true≢false}
-use Rattle.std.proofs.lemmas.Bool.Decides.{nat_tests}
+use Rattle.json_value.proofs.Common.{◌≡◌, ◌≢◌, ◌==◌, ℕ, zero, suc, not, Bool, true, false, cond, List, [], ◌∷◌, ◌++◌, Option}
+use Rattle.json_value.proofs.Common.{None, Some, ◌<◌, length, inl, inr, slice_get, option_and_then, refl, sym, ap, ◌∙◌, arith}
+use Rattle.json_value.proofs.Common.{true≢false, nat_tests, length-slice_split, onto_first, slice_split, option_eq, bytes_eq}
+use Rattle.json_value.proofs.Common.{string_bytes, by_kind_in, is_named, child, descendant, index_of, member_place, name_of}
+use Rattle.json_value.proofs.Common.{place, put_at, put_child, put_steps, value_at, is_plain, paths_differ, steps_differ, Part}
+use Rattle.json_value.proofs.Common.{PathsPart, Value, out-Value}
+use Rattle.std.proofs.Common.{String, Global}
 use Rattle.std.proofs.lemmas.Slice.Eq.{bytes_eq-Decides}
-use Rattle.std.proofs.lemmas.List.Splits.{length-slice_split}
-use Rattle.std.specs.List.{onto_first, slice_split}
-use Rattle.std.specs.Option.{option_eq}
-use Rattle.std.specs.Str.{bytes_eq}
-use Rattle.std.specs.String.{string_bytes}
 use Rattle.halfbrown.proofs.lemmas.pairs.Indices.{IsFirst, first_of_index}
 use Rattle.halfbrown.specs.Pairs.{index_of as first_index}
 use Rattle.json_value.proofs.Placed.{put_at_other, put_other, put_same, put_steps_other}
 use Rattle.json_value.proofs.Pointer.{index_of-decimal}
-use Rattle.json_value.specs.Members.{by_kind_in, is_named}
-use Rattle.json_value.specs.Pointer.{child, descendant, index_of, member_place, name_of, place, put_at, put_child, put_steps, value_at}
-use Rattle.json_value.specs.Pointer.{is_plain, paths_differ, steps_differ, Part, PathsPart}
-use Rattle.json_value.specs.declared.value.Value.{Value}
 use Rattle.json_value.specs.declared.value.Value.TheOpen.{Value-F}
-use Rattle.json_value.specs.declared.value.Value.TheViews.{out-Value}
 
 -- ---- what leads to one place has one name
 
@@ -36,12 +30,9 @@ same_member (Some a) (Some b) ks i one two =
 same_place : (v : Value-F Value) (step other : List ℕ) (i : ℕ)
     → by_kind_in (λ vs. index_of step) (λ m. member_place m.pairs step) None v ≡ Some i
     → by_kind_in (λ vs. index_of other) (λ m. member_place m.pairs other) None v ≡ Some i → name_of step ≡ name_of other
-same_place Value-F.Null step other i one two = cc
-same_place (Value-F.Bool b) step other i one two = cc
-same_place (Value-F.Number s) step other i one two = cc
-same_place (Value-F.Text s) step other i one two = cc
 same_place (Value-F.List vs) step other i one two = ap name_of (sym (index_of-decimal step i one) ∙ index_of-decimal other i two)
 same_place (Value-F.Object m) step other i one two = same_member (name_of step) (name_of other) _ i one two
+same_place v step other i one two = cc
 
 -- ---- so steps to different names part
 
@@ -71,17 +62,15 @@ module _ (v : Value) (step other : List ℕ) (steps others : List (List ℕ))
   part_here false is (Some x) led there part = inl (places_apart v step other (λ none. absurd (cc)) (grind (arith, nat_tests)))
 
 part_by : (v : Value) (steps others : List (List ℕ)) → descendant v steps ≢ None → steps_differ steps others ≡ true → Part v steps others
-part_by v [] others there part = absurd cc
-part_by v (step ∷ steps) [] there part = absurd cc
 part_by v (step ∷ steps) (other ∷ others) there part =
     part_here v step other steps others (λ x. part_by x steps others) (bytes_eq step other) refl (child v step) refl there part
+part_by v steps others there part = absurd cc
 
 paths_apart : (v : Value) (path other : List ℕ) → value_at v path ≢ None → paths_differ path other ≡ true → PathsPart v path other
-paths_apart v [] other there part = absurd cc
-paths_apart v (c ∷ path) [] there part = absurd cc
 paths_apart v (c ∷ path) (d ∷ other) there part =
     let slashes : (c ≡ 47) × (d ≡ 47) = grind (arith, nat_tests) in
     (slashes.0, slashes.1, part_by v _ _ (rw slashes.0 at there) (rw (slashes.0, slashes.1) at part))
+paths_apart v path other there part = absurd cc
 
 -- a path that leads to a value and another of different names part
 pub parts : (v : Value) (path other : List ℕ) {had : Value} → value_at v path ≡ Some had → paths_differ path other ≡ true → PathsPart v path other

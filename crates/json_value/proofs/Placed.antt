@@ -1,21 +1,12 @@
 -- What steps lead to once another value is put somewhere.
-use Rattle.std.proofs.Common.{◌≡◌, ◌≢◌, inl, inr, ◌==◌, ℕ, zero, suc, List, [], ◌∷◌, None, Some, option_and_then, slice_get}
-use Rattle.std.proofs.Common.{slice_set, refl, ap, ◌∙◌, arith}
-use Rattle.std.proofs.lemmas.Grind.{common_steps}
-use Rattle.std.proofs.lemmas.Option.{gets}
-use Rattle.std.specs.List.{slice_split}
-use Rattle.std.specs.Map.{values_of}
+use Rattle.json_value.proofs.Common.{◌≡◌, ◌≢◌, inl, inr, ◌==◌, ℕ, zero, suc, List, [], ◌∷◌, Some, option_and_then, slice_get}
+use Rattle.json_value.proofs.Common.{slice_set, refl, ap, ◌∙◌, arith, common_steps, gets, slice_split, values_of, set_value_at}
+use Rattle.json_value.proofs.Common.{is_named, child, children, descendant, member_place, name_of, place, put_at, put_child}
+use Rattle.json_value.proofs.Common.{put_steps, Part, PathsPart, value_at, with_child, Value, the_lemmas}
 use Rattle.std.specs.declared.alloc.Global.{Global}
 use Rattle.std.specs.declared.string.String.{String}
 use Rattle.halfbrown.proofs.lemmas.map.Layout.{keys_of-set_value_at}
-use Rattle.halfbrown.specs.Pairs.{index_of as first_index, set_value_at}
-use Rattle.json_value.specs.Members.{is_named}
-use Rattle.json_value.specs.Pointer.{child, children, descendant, member_place, name_of, place, put_at, put_child, put_steps}
-use Rattle.json_value.specs.Pointer.{Part, PathsPart, value_at, with_child}
-use Rattle.json_value.specs.declared.value.Value.{Value, the_lemmas}
-
-none≢some : {X : Type 0} (x : X) → None ≡ Some x → ⊥
-none≢some x e = cc
+use Rattle.halfbrown.specs.Pairs.{index_of as first_index}
 
 get-set : {X : Type 0} (xs : List X) (i : ℕ) (x y : X) → slice_get xs i ≡ Some x → slice_get (slice_set xs i y) i ≡ Some y
 get-set xs i x y at = grind (arith, common_steps, gets)
@@ -68,15 +59,13 @@ put_at_there v (c ∷ path) b w there = grind (arith, put_there)
 -- other steps lead where they led
 pub put_steps_other : (v : Value) (steps others : List (List ℕ)) (w : Value) → Part v steps others
     → descendant (put_steps v steps w) others ≡ descendant v others
-put_steps_other v [] others w part = absurd part
-put_steps_other v (step ∷ steps) [] w part = absurd part
 put_steps_other v (step ∷ steps) (other ∷ others) w (inl apart) = grind (arith, put_other)
 put_steps_other v (step ∷ steps) (other ∷ others) w (inr same) =
     grind (arith, put_same, put_steps_other same.1 steps others w same.3)
+put_steps_other v steps others w part = absurd part
 
 -- what is put at a path leaves what other paths lead to
 pub put_at_other : (v : Value) (path other : List ℕ) (w : Value) → PathsPart v path other → value_at (put_at v path w) other ≡ value_at v other
-put_at_other v [] other w part = absurd part
-put_at_other v (c ∷ path) [] w part = absurd part
 put_at_other v (c ∷ path) (d ∷ other) w part =
     rw (part.0, part.1) (put_steps_other v (slice_split (λ b. b == 47) path) (slice_split (λ b. b == 47) other) w part.2)
+put_at_other v path other w part = absurd part

@@ -1,27 +1,22 @@
 -- A path, a step at a time.
-use Rattle.std.proofs.Common.{◌≡◌, ◌≢◌, ℕ, suc, ◌^◌, ◌<◌, ◌≤◌, true, false, List, [], ◌∷◌, ◌++◌, length, get_or, Option, None, Some, option_map, option_and_then, Result, Ok, Err, refl, sym, ap, ◌∙◌, arith, true≢false, eq-eqb, eqb-true, ne_eqb, slice_index, slice_get, ◌==◌, Vec, Global, rules}
-use Rattle.std.proofs.lemmas.Bool.Decides.{nat_tests}
+use Rattle.json_value.proofs.Common.{◌≡◌, ◌≢◌, ℕ, suc, ◌^◌, ◌<◌, ◌≤◌, true, false, List, [], ◌∷◌, ◌++◌, length, get_or, Option}
+use Rattle.json_value.proofs.Common.{None, Some, option_and_then, Result, Ok, Err, refl, sym, ap, ◌∙◌, arith, true≢false}
+use Rattle.json_value.proofs.Common.{eq-eqb, eqb-true, ne_eqb, slice_index, slice_get, ◌==◌, Vec, rules, nat_tests}
+use Rattle.json_value.proofs.Common.{get_or_default, slice_split_at, slice_split_none, slice_get-map, Bor, All, slice_split}
+use Rattle.json_value.proofs.Common.{values_of, deref_pair, result_ok, all_ascii_digits, name_of, name_after_tilde}
+use Rattle.json_value.proofs.Common.{child, children, descendant, place, value_at, Value, the_lemmas}
+use Rattle.std.proofs.Common.{option_map, Global}
 use Rattle.std.specs.Fmt.{decimal}
 use Rattle.std.proofs.lemmas.Fmt.{decimal-digits_value}
 use Rattle.std.proofs.lemmas.Str.Parse.{IsNumeralModel, numerals_by_value, tells_all_ascii_digits, parse_plain}
-use Rattle.std.proofs.lemmas.List.{get_or_default}
-use Rattle.std.proofs.lemmas.List.Splits.{slice_split_at, slice_split_none}
-use Rattle.std.proofs.lemmas.Option.{slice_get-map}
-use Rattle.std.specs.Borrow.{Bor}
-use Rattle.std.specs.List.{All, slice_split}
-use Rattle.std.specs.Map.{values_of}
-use Rattle.std.specs.Map.Iter.{deref_pair}
 use Rattle.std.specs.Iterator.{AlwaysYields}
-use Rattle.std.specs.Result.{result_ok}
-use Rattle.std.specs.Str.{all_ascii_digits}
 use Rattle.std.specs.Str.Iter.{split_steps}
 use Rattle.std.specs.Str.Parse.{digits_value, ParsesUnsigned}
 use Rattle.std.specs.Str.Pattern.{FindsChar}
 use Rattle.std.specs.declared.str.Split.{Split}
 use Rattle.std.specs.declared.string.String.{String}
 use Rattle.json_value.proofs.Writing.{Members}
-use Rattle.json_value.specs.Pointer.{name_of, name_after_tilde, index_of, child, children, descendant, place, value_at}
-use Rattle.json_value.specs.declared.value.Value.{Value, the_lemmas}
+use Rattle.json_value.specs.Pointer.{index_of}
 use Rattle.json_value.specs.declared.value.Value.TheViews.{List as list_of, Object as object_of}
 
 -- ---- names
@@ -68,12 +63,9 @@ module _ {E : Type 0} where
   unfolding index_of
   index_of-parsed [] (Ok x) parsed plain alone = absurd (omega (arith, parsed.0.0))
   index_of-parsed [] (Err e) parsed plain alone = refl
-  index_of-parsed (c ∷ step) (Ok x) parsed plain alone =
+  index_of-parsed (c ∷ step) r parsed plain alone =
       let signless = λ (e : c ≡ 43). true≢false (sym (eq-eqb c 43 e) ∙ plain) in
-      grind (arith, nat_tests, parse_plain own {E = E} 64 (c ∷ step) (Ok x) parsed signless)
-  index_of-parsed (c ∷ step) (Err e) parsed plain alone =
-      let signless = λ (e : c ≡ 43). true≢false (sym (eq-eqb c 43 e) ∙ plain) in
-      grind (arith, nat_tests, parse_plain own {E = E} 64 (c ∷ step) (Err e) parsed signless)
+      grind (arith, nat_tests, parse_plain own {E = E} 64 (c ∷ step) r parsed signless)
 
 -- an index has one step that writes it
 pub index_of-decimal : (step : List ℕ) (i : ℕ) → index_of step ≡ Some i → decimal i ≡ step

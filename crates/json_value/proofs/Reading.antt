@@ -1,23 +1,15 @@
 -- What the items and the members that were read so far are.
-use Rattle.std.proofs.Common.{◌≡◌, ℕ, Bool, true, false, cond, is_some, List, [], ◌∷◌, ◌++◌, Option, Some, None, map, refl, sym, ap, ◌∙◌}
-use Rattle.std.proofs.lemmas.List.{map-append}
+use Rattle.json_value.proofs.Common.{◌≡◌, ℕ, Bool, is_some, List, [], ◌∷◌, ◌++◌, Option, Some, None, map, refl, ap, ◌∙◌, arith}
+use Rattle.json_value.proofs.Common.{common_steps, map-append, Bor, bytes_eq, string_bytes, string_eq, put_all, put, set_value}
+use Rattle.json_value.proofs.Common.{Json, item, value_view, items_view, members_view, items_of, json_of, merged, merged_items}
+use Rattle.json_value.proofs.Common.{merged_values, Value}
 use Rattle.std.proofs.lemmas.Map.Made.{lookup-map_values}
-use Rattle.std.specs.Borrow.{Bor}
-use Rattle.std.specs.Map.{lookup}
 use Rattle.std.specs.Option.{option_map}
-use Rattle.std.specs.Str.{bytes_eq}
-use Rattle.std.specs.String.{string_bytes, string_eq}
 use Rattle.std.specs.declared.alloc.Global.{Global}
 use Rattle.std.specs.declared.string.String.{String}
 use Rattle.halfbrown.proofs.callers.Texts.{keyed_by-put}
-use Rattle.halfbrown.specs.Collect.{put_all}
 use Rattle.halfbrown.specs.ByKey.{keyed_by}
-use Rattle.halfbrown.specs.Pairs.{put, set_value, holds}
-use Rattle.json.specs.Json.{Json, item}
-use Rattle.json.specs.Value.{value_view, items_view, members_view, items_of}
 use Rattle.json.specs.declared.value.Value as json
-use Rattle.json_value.specs.Json.{json_of, merged, merged_items, merged_values}
-use Rattle.json_value.specs.declared.value.Value.{Value}
 
 is_some_map : {X Y : Type 0} (h : X → Y) (o : Option X) → is_some (option_map h o) ≡ is_some o
 is_some_map h None = refl
@@ -28,23 +20,13 @@ module _ {K X Y : Type 0} (h : X → Y) where
   abbrev pub over : K × X → K × Y
   over p = (p.0, h p.1)
 
-  over_cond : (b : Bool) (ps qs : List (K × X)) → map over (cond b ps qs) ≡ cond b (map over ps) (map over qs)
-  over_cond true ps qs = refl
-  over_cond false ps qs = refl
-
   set_over : (test : K → Bool) (ps : List (K × X)) (v : X) → map over (set_value test ps v) ≡ set_value test (map over ps) (h v)
   set_over test [] v = refl
-  set_over test (p ∷ ps) v =
-      over_cond (test p.0) ((p.0, v) ∷ ps) (p ∷ set_value test ps v)
-      ∙ ap (λ l. cond (test p.0) ((p.0, h v) ∷ map over ps) (over p ∷ l)) (set_over test ps v)
+  set_over test (p ∷ ps) v = grind (arith, common_steps, set_over test ps v)
 
   pub put_over : (eq : K → K → Bool) (ps : List (K × X)) (k : K) (v : X) → map over (put eq ps k v) ≡ put eq (map over ps) k (h v)
   put_over eq ps k v =
-      let held = ap is_some (lookup-map_values h (eq k) ps) ∙ is_some_map h (lookup (eq k) ps) in
-      over_cond (holds eq ps k) (set_value (eq k) ps v) (ps ++ (k, v) ∷ [])
-      ∙ ap (λ l. cond (holds eq ps k) l (map over (ps ++ (k, v) ∷ []))) (set_over (eq k) ps v)
-      ∙ ap (λ l. cond (holds eq ps k) (set_value (eq k) (map over ps) (h v)) l) (map-append over ps ((k, v) ∷ []))
-      ∙ ap (λ b. cond b (set_value (eq k) (map over ps) (h v)) (map over ps ++ (k, h v) ∷ [])) (sym held)
+      grind (arith, common_steps, set_over (eq k) ps v, map-append over ps ((k, v) ∷ []), lookup-map_values h (eq k) ps, is_some_map)
 
 -- the members of an object, as JSON
 abbrev pub seen : List (String Global × Value) → List (List ℕ × Json)

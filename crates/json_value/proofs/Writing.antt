@@ -1,29 +1,22 @@
 -- What is written of the items of a list and the members of an object, one after another.
-use Rattle.std.proofs.Common.{◌≡◌, ℕ, zero, suc, ◌<◌, ◌≤◌, length, get_or, List, [], ◌∷◌, ◌++◌, Some, map, Vec, option_and_then}
-use Rattle.std.proofs.Common.{append-nil, refl, sym, ap, subst, ◌∙◌, arith, rules}
-use Rattle.std.proofs.lemmas.List.{append_assoc}
-use Rattle.std.specs.Borrow.{Bor}
-use Rattle.std.specs.List.{flat_map}
-use Rattle.std.specs.Map.Iter.{deref_pair}
-use Rattle.std.specs.String.{string_bytes}
+use Rattle.json_value.proofs.Common.{◌≡◌, ℕ, zero, suc, ◌<◌, ◌≤◌, length, get_or, List, [], ◌∷◌, ◌++◌, Some, map, Vec}
+use Rattle.json_value.proofs.Common.{option_and_then, append-nil, refl, sym, ap, subst, ◌∙◌, arith, rules, append_assoc, Bor}
+use Rattle.json_value.proofs.Common.{flat_map, deref_pair, string_bytes, State, Json, array, object, document, if_last}
+use Rattle.json_value.proofs.Common.{max_depth, value, json_tokens, items_tokens, members_tokens, depth, items_depth}
+use Rattle.json_value.proofs.Common.{members_depth, HasNumbers, ItemsHaveNumbers, MembersHaveNumbers, items_of, json_of, Value}
+use Rattle.json_value.proofs.Common.{the_lemmas, Object}
 use Rattle.std.specs.declared.alloc.Global.{Global}
 use Rattle.std.specs.declared.hash.BuildHasherDefault.{BuildHasherDefault}
 use Rattle.std.specs.declared.hash.FoldHasher.{FoldHasher}
 use Rattle.std.specs.declared.string.String.{String}
-use Rattle.halfbrown.specs.State.{State}
 use Rattle.json.proofs.Printed.Trees.{value-json_tokens}
-use Rattle.json.specs.Json.{Json, array, object, document, if_last, max_depth, value}
 use Rattle.json.specs.Lex.{tokens}
 use Rattle.json.specs.Print.{print}
 use Rattle.json.specs.Token.{Token, key}
 use Rattle.json.specs.Token as token
-use Rattle.json.specs.Tree.{json_tokens, items_tokens, members_tokens, depth, items_depth, members_depth}
-use Rattle.json.specs.Tree.{HasNumbers, ItemsHaveNumbers, MembersHaveNumbers}
-use Rattle.json.specs.Value.{items_of}
 use Rattle.json_value.proofs.Reading.{seen}
-use Rattle.json_value.specs.Json.{json_of, members_of}
-use Rattle.json_value.specs.declared.value.Value.{Value, the_lemmas}
-use Rattle.json_value.specs.declared.value.Value.TheViews.{List as list_of, Object}
+use Rattle.json_value.specs.Json.{members_of}
+use Rattle.json_value.specs.declared.value.Value.TheViews.{List as list_of}
 
 -- the members of an object
 abbrev pub Members : Type 0

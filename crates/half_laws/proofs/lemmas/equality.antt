@@ -1,24 +1,16 @@
 -- What decides the equality of maps, and what the searches of a comparison cost together.
-use Rattle.std.proofs.Common.{◌≡◌, ℕ, ◌≤◌, Bool, true, false, cond, List, [], ◌∷◌, length, is_some, refl, sym, ap, ◌∙◌}
-use Rattle.std.proofs.Common.{arith, ◌+◌, ◌-◌, ◌*◌, subst}
-use Rattle.std.proofs.lemmas.Grind.{common_steps}
+use Rattle.half_laws.proofs.Common.{◌≡◌, ℕ, ◌≤◌, Bool, true, List, [], ◌∷◌, length, is_some, refl, sym, ap, ◌∙◌, arith, ◌+◌}
+use Rattle.half_laws.proofs.Common.{◌*◌, subst, common_steps, IsEquivalence, IsDistinct, keys_of, count_by-le-length}
+use Rattle.half_laws.proofs.Common.{length-keys_of, holds_equal_pair, value_of, lookup_permuted, Work, search_asked}
+use Rattle.half_laws.proofs.Common.{IsKeySearchCost, State}
 use Rattle.std.specs.Bool.{one_answer}
-use Rattle.std.specs.Cmp.{IsEquivalence}
-use Rattle.std.specs.List.{IsDistinct, list_all}
-use Rattle.std.specs.Map.{keys_of}
+use Rattle.std.specs.List.{list_all}
 use Rattle.std.specs.Option.{option_eq}
-use Rattle.std.proofs.lemmas.List.Sums.{count_by-le-length}
-use Rattle.std.proofs.lemmas.Map.Entries.{length-keys_of}
-use Rattle.halfbrown.specs.Equality.{same_pairs, holds_equal_pair, keys_while_same, searched_keys, same_pairs-Decides}
+use Rattle.halfbrown.specs.Equality.{same_pairs, keys_while_same, searched_keys, same_pairs-Decides}
 use Rattle.half_laws.specs.ComparisonLaws.{OrderLaw, PairsLaw, ComparisonLaw}
 use Rattle.halfbrown.proofs.lemmas.map.Equality.{same_pairs-by_pairs, all_searched, none_searched}
-use Rattle.halfbrown.specs.Pairs.{value_of}
-use Rattle.halfbrown.proofs.callers.Pairs.{lookup_permuted}
 use Rattle.std.proofs.Math.Nat.{mul-le-mul_left}
-use Rattle.half_store.specs.Work.{Work}
-use Rattle.halfbrown.specs.CostRanges.{between, exactly}
-use Rattle.halfbrown.specs.Costs.{keys_of_hash, search_asked, IsKeySearchCost, AreSearchCosts}
-use Rattle.halfbrown.specs.State.{State}
+use Rattle.halfbrown.specs.Costs.{AreSearchCosts}
 
 module _ {K V : Type 0} (eq : K → K → Bool) (value_eq : V → V → Bool) (laws : IsEquivalence eq) where
   pub pairs_law : PairsLaw eq value_eq
@@ -34,21 +26,13 @@ module _ {K V : Type 0} (eq : K → K → Bool) (value_eq : V → V → Bool) (l
         λ each. (same_pairs-Decides eq value_eq laws pairs other).1 (λ k. sym (same k) ∙ each k),
       )
 
--- a search compares at most all keys
-compares_most : (is_vec held : Bool) (in_order keys_of_hash most : ℕ) → keys_of_hash ≤ most
-    → (cond is_vec (between in_order most) (cond held (between 1 keys_of_hash) (exactly keys_of_hash))).greatest ≤ most
-compares_most is_vec held in_order keys_of_hash most table = grind (arith, common_steps)
-
-looks_most : (is_vec held : Bool) (probe : ℕ) → (cond is_vec (exactly 0) (cond held (between 1 (probe - 1)) (exactly probe))).greatest ≤ probe
-looks_most is_vec held probe = grind (arith, common_steps)
-
 module _ {K V S : Type 0} (eq : K → K → Bool) (hash : S → K → ℕ) (m : State K V S) where
   none_cost : (before after : Work) → AreSearchCosts eq hash m [] before after → after ≡ before
   unfolding AreSearchCosts
   none_cost before after costs = costs
 
   one_compares : (k : K) (before after : Work) → IsKeySearchCost eq hash m k before after → after.compared ≤ before.compared + length m.pairs
-  one_compares k before after costs = grind (arith, common_steps, compares_most, count_by-le-length, is_some, length-keys_of)
+  one_compares k before after costs = grind (arith, common_steps, count_by-le-length, is_some, length-keys_of)
 
   one_looks : (k : K) (before after : Work) → IsKeySearchCost eq hash m k before after → after.looked ≤ before.looked + (length m.pairs + 1)
   one_looks k before after costs = grind (arith, common_steps)
@@ -85,14 +69,6 @@ module _ {K V : Type 0} (eq : K → K → Bool) (value_eq : V → V → Bool) wh
   length_all [] right all = refl
   length_all (p ∷ left) right all = grind (arith, common_steps, length_all left right)
 
--- one hash for each search at most
-asked_most : (is_vec : Bool) (searches most : ℕ) → searches ≤ most → search_asked is_vec * searches ≤ most
-asked_most true searches most within = omega arith
-asked_most false searches most within = omega (arith, within)
-
-asked_never : (is_vec : Bool) (searches : ℕ) → is_vec ≡ true → search_asked is_vec * searches ≡ 0
-asked_never is_vec searches vector = rw vector (omega arith)
-
 -- ---- what a comparison of two maps costs
 
 module _ {K V S : Type 0} (eq : K → K → Bool) (value_eq : V → V → Bool) (laws : IsEquivalence eq) (hash : S → K → ℕ) where
@@ -111,8 +87,8 @@ module _ {K V S : Type 0} (eq : K → K → Bool) (value_eq : V → V → Bool) 
         lengths_differ = λ differ. none_cost eq hash m before after
             (subst (λ ks. AreSearchCosts eq hash m ks before after) (sym (none_searched eq value_eq left m.pairs differ)) costs);
         asked = asked;
-        asked_in_a_vector = λ vector. omega (arith, asked, asked_never m.is_vec (length searched) vector);
-        asked_at_most = omega (arith, asked, asked_most m.is_vec (length searched) (length left) most);
+        asked_in_a_vector = λ vector. grind (arith, common_steps);
+        asked_at_most = grind (arith, common_steps);
         asked_where_same = λ left_distinct right_distinct same.
             asked ∙ ap (λ n. before.asked + search_asked m.is_vec * n) (all_are_searched left m left_distinct right_distinct same);
         compared_at_most = omega (arith, costly.1, mul-le-mul_left (length m.pairs) most);

@@ -1,21 +1,16 @@
 -- What searches read that find their keys.
-use Rattle.std.proofs.Common.{◌≡◌, ℕ, ◌+◌, ◌<◌, Bool, false, List, length, map, IfSome, sym, ◌∙◌, subst, arith}
+use Rattle.half_laws.proofs.Common.{◌≡◌, ℕ, ◌+◌, ◌<◌, Bool, false, List, length, map, IfSome, sym, ◌∙◌, subst, arith}
+use Rattle.half_laws.proofs.Common.{length-keys_of, keys_of, buckets_of, four-le_count, hit_reads, filling_reads, State}
+use Rattle.half_laws.proofs.Common.{IsValid, InHalfFullTables, InTables}
 use Rattle.std.proofs.lemmas.List.Sorted.{sum_by-IsPermutation, length_permutation, IsPermutation-map}
-use Rattle.std.proofs.lemmas.Map.Entries.{length-keys_of}
 use Rattle.std.proofs.Math.ListN.{length-map}
-use Rattle.std.specs.Map.{keys_of}
-use Rattle.half_store.specs.Capacity.{buckets_of}
 use Rattle.half_store.specs.Table.{all_hit_reads_in}
-use Rattle.half_store.proofs.lemmas.capacity.{four-le_count}
 use Rattle.half_store.proofs.lemmas.table.Counts.{tick}
 use Rattle.half_store.proofs.lemmas.table.Filled.{IsTableOf, slots_with, table_of, filled}
 use Rattle.half_store.proofs.lemmas.table.Hits.{same_reads}
 use Rattle.half_mean.specs.Mean.{total_filling, MeanFillingIsAtMost}
 use Rattle.half_mean.proofs.lemmas.Filling.{filling_capacity_law, filling_half_full_law}
-use Rattle.halfbrown.specs.Costs.{hit_reads, filling_reads}
-use Rattle.halfbrown.specs.State.{State, IsValid}
 use Rattle.half_laws.specs.HitLaws.{HitLaw, HitTotalLaw, HitHistoryLaw, FillingOrderLaw, MeanHitIsAtMost}
-use Rattle.half_laws.specs.MeanLaws.{InHalfFullTables, InTables}
 use Rattle.half_laws.specs.MapLaws.{HoldSamePairs}
 use Rattle.half_laws.proofs.lemmas.means.{table_count, in_half_full_tables, in_tables}
 

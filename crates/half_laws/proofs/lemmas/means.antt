@@ -1,13 +1,10 @@
 -- What a search that finds nothing reads on average.
-use Rattle.std.proofs.Common.{◌≡◌, ℕ, refl, arith}
-use Rattle.std.proofs.lemmas.Grind.{common_steps}
-use Rattle.half_store.specs.Capacity.{buckets_of, capacity_of, IsBucketCount}
-use Rattle.half_store.proofs.lemmas.capacity.{buckets_for-least, buckets_of-capacity_of}
+use Rattle.half_laws.proofs.Common.{◌≡◌, ℕ, refl, arith, common_steps, buckets_of, capacity_of, IsBucketCount}
+use Rattle.half_laws.proofs.Common.{buckets_for-least, buckets_of-capacity_of, IsTableCapacity, MissLaw, MissTotalLaw}
+use Rattle.half_laws.proofs.Common.{InHalfFullTables, InTables, MeanMissIsAtMost}
 use Rattle.half_mean.specs.Mean.{total_reach, MeanReachIsAtMost, UpToHalf, UpToCapacity}
 use Rattle.half_mean.proofs.lemmas.Means.{bucket_share, half_full_law, capacity_law}
-use Rattle.halfbrown.specs.State.{IsTableCapacity}
 use Rattle.halfbrown.proofs.lemmas.pairs.Indices.{absent_of_unheld}
-use Rattle.half_laws.specs.MeanLaws.{MissLaw, MissTotalLaw, InHalfFullTables, InTables, MeanMissIsAtMost}
 
 pub miss_law : {K : Type 0} (V : Type 0) {S : Type 0} (hash : S → K → ℕ) → MissLaw V hash
 miss_law V hash m test wanted asked before after table unheld costs =

@@ -1,13 +1,13 @@
 -- What holds of `reach` for every list of held hashes.
-use Rattle.std.proofs.Common.{◌≡◌, ℕ, zero, suc, ◌-◌, ◌<◌, ◌≤◌, true, false, leb, nat_lt, inl, inr, ap, subst, arith, List}
-use Rattle.std.proofs.Common.{length, get_or, sum_by, Contains}
-use Rattle.std.proofs.lemmas.Grind.{common_steps}
-use Rattle.std.proofs.lemmas.Bool.{cases_lt, cases_eq, cases_Bool, or_cases, leb-true, lt-ltb, both_ways, false≢true}
-use Rattle.std.proofs.lemmas.List.Sums.{get_or-le-sum_by, count_by-le-length}
-use Rattle.half_store.specs.Reach.{home, probe_distance, bucket_after, load, loaded_within, bucket_is_loaded, loaded_run, reach, IsLoaded}
+use Rattle.half_laws.proofs.Common.{◌≡◌, ℕ, zero, suc, ◌-◌, ◌<◌, ◌≤◌, true, false, leb, nat_lt, inl, inr, ap, subst, arith}
+use Rattle.half_laws.proofs.Common.{List, length, get_or, sum_by, Contains, common_steps, cases_lt, cases_eq, or_cases}
+use Rattle.half_laws.proofs.Common.{leb-true, lt-ltb, both_ways, false≢true, get_or-le-sum_by, count_by-le-length}
+use Rattle.half_store.specs.Reach.{home, probe_distance, bucket_after, load, loaded_within, bucket_is_loaded, loaded_run, reach}
+use Rattle.half_store.specs.Reach.{IsLoaded}
 use Rattle.half_laws.specs.ProbeLaws.{PassesLoaded, NothingHeldLaw, OneBucketLaw, SharedHomeLaw}
 use Rattle.half_laws.specs.ProbeLaws.{ShortLaw, OnceRoundLaw, CrowdingLaw, StopsLaw}
-use Rattle.half_store.proofs.lemmas.table.Circle.{distance_is, distance_self, after_is, bucket_after-zero, after_next, bucket_after-lt}
+use Rattle.half_store.proofs.lemmas.table.Circle.{distance_is, distance_self, after_is, bucket_after-zero, after_next}
+use Rattle.half_store.proofs.lemmas.table.Circle.{bucket_after-lt}
 use Rattle.half_store.proofs.lemmas.table.Counts.{tick, tick_yes}
 unfoldable use Rattle.half_store.proofs.lemmas.table.Filled.{stop}
 use Rattle.half_store.proofs.lemmas.table.Filled.{probe_stops, crowd_of_probe}
@@ -44,22 +44,11 @@ module _ (hashes : List ℕ) (m : ℕ) where
       → bucket_is_loaded hashes m (bucket_after m b k) ≡ true
   unfolding loaded_run
   loaded_run-loaded zero b in_b in_most k l = absurd (omega arith)
-  loaded_run-loaded (suc most) b in_b in_most k l =
-      elim (cases_Bool (bucket_is_loaded hashes m b)) [
-        | inr e ↦ let l' = rw e at l in absurd (omega arith)
-        | inl e ↦
-            let l' : k < suc (loaded_run hashes m most (bucket_after m b 1)) = rw e at l in
-            elim (cases_eq k 0) [
-              | inl z ↦ rw (z, bucket_after-zero m b in_b) e
-              | inr ne ↦
-                  let j : ℕ = k - 1 in
-                  let one : suc j ≡ k = omega arith in
-                  let rest = loaded_run-loaded most (bucket_after m b 1) (bucket_after-lt m b in_b 1 (omega arith)) (omega arith) j
-                  (omega arith) in
-                  subst (λ n. bucket_is_loaded hashes m (bucket_after m b n) ≡ true) one
-                  (rw (← after_next m b in_b j (omega (arith, loaded_run-le most (bucket_after m b 1)))) rest)
-            ]
-      ]
+  loaded_run-loaded (suc most) b in_b in_most zero l = grind (arith, common_steps, bucket_after-zero m b in_b)
+  loaded_run-loaded (suc most) b in_b in_most (suc k) l =
+      let small = loaded_run-le most (bucket_after m b 1) in
+      let rest = loaded_run-loaded most (bucket_after m b 1) (bucket_after-lt m b in_b 1 (omega arith)) (omega arith) k in
+      grind (arith, common_steps, rest, after_next m b in_b k)
 
   pub not_loaded : (last : ℕ) → bucket_is_loaded hashes m last ≡ false → IsLoaded hashes m last → ⊥
   not_loaded last e loaded = both_ways (bucket_is_loaded hashes m last) e (bucket_is_loaded-yes hashes m last loaded)

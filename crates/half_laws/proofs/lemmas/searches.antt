@@ -1,36 +1,27 @@
 -- What holds of every search.
-use Rattle.std.proofs.Common.{◌≡◌, ℕ, ◌+◌, ◌-◌, ◌<◌, ◌≤◌, ◌==◌, Bool, true, false, not, ◌&&◌, refl, sym, ap, ◌∙◌, subst, arith, List}
-use Rattle.std.proofs.Common.{length, map, cond, Option, None, is_some, IsPermutation, if◌then◌else◌}
-use Rattle.std.proofs.lemmas.Bool.{and_right}
-use Rattle.std.proofs.lemmas.Grind.{common_steps}
+use Rattle.half_laws.proofs.Common.{◌≡◌, ℕ, ◌+◌, ◌-◌, ◌<◌, ◌≤◌, ◌==◌, Bool, true, false, not, ◌&&◌, refl, sym, ap, ◌∙◌, subst}
+use Rattle.half_laws.proofs.Common.{arith, List, length, map, cond, None, is_some, IsPermutation, if◌then◌else◌, and_right}
+use Rattle.half_laws.proofs.Common.{common_steps, length-keys_of, keys_of, buckets_of, least_buckets, index_of, Work}
+use Rattle.half_laws.proofs.Common.{four-le_count, buckets_for-least, buckets_of-capacity_of, capacity_for-capacity_of, Command}
+use Rattle.half_laws.proofs.Common.{Insert, InsertNew, EntryOrInsert, RawOrInsert, TallyGrewBy, search_asked, keys_of_hash}
+use Rattle.half_laws.proofs.Common.{miss_reads, search_compares, search_reads, search_cost, key_search_cost, switched, grown}
+use Rattle.half_laws.proofs.Common.{insertion_reads, insert_cost, raw_insert_cost, new_key_cost, is_switch_refused}
+use Rattle.half_laws.proofs.Common.{capacity_after_switch, capacity_after_growth, addition_grows, IsSearchCost, IsInsertCost}
+use Rattle.half_laws.proofs.Common.{is_vec_after, holds, holds_by, command_cost, State, state_with, IsValid, IsTableCapacity}
+use Rattle.half_laws.proofs.Common.{full_len}
 use Rattle.std.proofs.lemmas.List.Sorted.{IsPermutation-map, length_permutation, sum_by-IsPermutation, list_any-IsPermutation}
-use Rattle.std.proofs.lemmas.Map.Entries.{length-keys_of}
 use Rattle.std.proofs.Math.ListN.{length-map}
 use Rattle.std.proofs.lemmas.Map.Made.{is_some-lookup}
-use Rattle.std.specs.Map.{keys_of}
 use Rattle.half_store.specs.Reach.{reach}
-use Rattle.half_store.specs.Capacity.{buckets_of, least_buckets}
-use Rattle.half_store.specs.PairLists.{index_of}
-use Rattle.half_store.specs.Work.{Work, first_match_cost}
+use Rattle.half_store.specs.Work.{first_match_cost}
 use Rattle.half_store.proofs.lemmas.table.Reach.{reach-none}
-use Rattle.half_store.proofs.lemmas.capacity.{four-le_count, buckets_for-least, buckets_of-capacity_of, capacity_for-capacity_of}
 use Rattle.half_store.proofs.lemmas.table.History.{reach-permutation}
 use Rattle.half_laws.proofs.lemmas.probes.{crowding_law}
-use Rattle.halfbrown.specs.declared.run.Command.{Command}
-use Rattle.halfbrown.specs.declared.run.Command.TheVariants.{Insert, InsertNew, EntryOrInsert, RawOrInsert}
-use Rattle.halfbrown.specs.CostRanges.{Range, Cost, TallyGrewBy, NumberGrewWithin, exactly, between, add_ranges, no_cost}
-use Rattle.halfbrown.specs.Costs.{search_asked, keys_of_hash}
-use Rattle.halfbrown.specs.Costs.{miss_reads, search_compares, search_reads, search_cost, key_search_cost, switched, grown, insertion_reads}
-use Rattle.halfbrown.specs.Costs.{insert_cost, raw_insert_cost, new_key_cost, is_switch_refused, capacity_after_switch, capacity_after_growth}
-use Rattle.halfbrown.specs.Costs.{addition_grows, IsSearchCost, IsInsertCost}
-use Rattle.half_laws.specs.MapLaws.{HoldSamePairs, GrewExactlyBy, HistoryLaw, InsertionHistoryLaw, CrowdedSearchLaw, CrowdedInsertionLaw}
+use Rattle.halfbrown.specs.CostRanges.{Range, Cost, exactly, between, add_ranges, no_cost}
+use Rattle.half_laws.specs.MapLaws.{HoldSamePairs, GrewExactlyBy, HistoryLaw, InsertionHistoryLaw, CrowdedSearchLaw}
+use Rattle.half_laws.specs.MapLaws.{CrowdedInsertionLaw}
 use Rattle.half_laws.specs.MapLaws.{CrowdedProbeLaw, CrowdedGrowthLaw, CrowdedUncheckedLaw, CommandCostLaw, CommandHashesLaw}
 use Rattle.half_laws.specs.MapLaws.{CommandBucketsLaw, finds_in_vector}
-use Rattle.halfbrown.specs.Growth.{is_vec_after}
-use Rattle.halfbrown.specs.Pairs.{holds, holds_by}
-use Rattle.halfbrown.specs.Run.{command_cost}
-use Rattle.halfbrown.specs.State.{State, state_with, IsValid, IsTableCapacity}
-use Rattle.halfbrown.proofs.lemmas.map.Growth.{full_len}
 use Rattle.halfbrown.proofs.lemmas.pairs.Indices.{absent_of_unheld, found_where_held}
 
 -- a table with a capacity has more buckets than that
@@ -66,20 +57,6 @@ grew_exactly cost before after compared looked grew = record {
   looked = omega (arith, looked, grew.looked.at_least, grew.looked.at_most);
 }
 
--- an insertion that makes no capacity grow reads no more than its search
-insertion_most : (refused grows : Bool) (searched : Range) (probe before after : ℕ) → grows ≡ false
-    → NumberGrewWithin (if refused then exactly 0 else add_ranges searched (exactly (if grows then probe else 0))) before after
-    → after ≤ before + searched.greatest
-insertion_most refused grows searched probe before after none grew = grind (arith, common_steps, grew)
-
--- one that makes the capacity grow for its key has found nothing, and reads one more probe
-growing_reads : (refused granted held grows : Bool) (probe second before after : ℕ) → (granted && not held && grows) ≡ true
-    → (refused && granted) ≡ false
-    → NumberGrewWithin (if refused then exactly 0 else add_ranges (if held then between 1 (probe - 1) else exactly probe)
-    (exactly (if granted && not held && grows then second else 0))) before after
-    → after ≡ before + (probe + second)
-growing_reads refused granted held grows probe second before after some none grew = grind (arith, common_steps, grew)
-
 module _ {K V S : Type 0} (hash : S → K → ℕ) where
   pub crowded_probe_law : CrowdedProbeLaw V hash
   crowded_probe_law builder capacity pairs wanted passed is fits l = grind (arith, common_steps, buckets-more, crowding_law, length-keys_of, length-map, map, reach-none)
@@ -102,24 +79,12 @@ module _ {K V S : Type 0} (hash : S → K → ℕ) where
         let is = switched_fits m s stays in
         let more = grown_fits m s stays in
         let h : K → ℕ = hash m.builder in
-        let found : Option ℕ = index_of (eq k) (keys_of m.pairs) in
         let first : ℕ = miss_reads h false (capacity_after_switch limit m) m.pairs (h k) in
         let second : ℕ = miss_reads h false (capacity_after_growth limit m) m.pairs (h k) in
         record {
           first = first;
           second = second;
-          read = growing_reads (is_switch_refused limit m granted) granted (holds eq m.pairs k) (addition_grows limit m) first second
-              before.looked after.looked grows
-              (grind (arith, common_steps))
-              (subst (λ b. NumberGrewWithin (if is_switch_refused limit m granted then exactly 0 else add_ranges
-              (if b then between 1 (first - 1) else exactly first)
-              (exactly (if granted && not (holds eq m.pairs k) && addition_grows limit m then second else 0))) before.looked after.looked)
-              (found_where_held (eq k) m.pairs)
-              (subst (λ b. NumberGrewWithin (if is_switch_refused limit m granted then exactly 0 else add_ranges
-              (search_reads h (h k) found b (capacity_after_switch limit m) m.pairs)
-              (exactly (if granted && not (holds eq m.pairs k)
-              && addition_grows limit m then miss_reads h b (capacity_after_growth limit m) m.pairs (h k) else 0)))
-              before.looked after.looked) stays costs.grew.looked));
+          read = let held = found_where_held (eq k) m.pairs in grind (arith, common_steps);
           first_crowded = λ passed l. crowded_probe_law m.builder (capacity_after_switch limit m) m.pairs (hash m.builder k) passed is.0 is.1 l;
           second_crowded = λ passed l. crowded_probe_law m.builder (capacity_after_growth limit m) m.pairs (hash m.builder k) passed more.0 more.1
               l;
@@ -129,7 +94,7 @@ module _ {K V S : Type 0} (hash : S → K → ℕ) where
     crowded_unchecked_law m k granted before after passed s grew l = grind (arith, common_steps, crowded_probe_law, grown_fits)
 
     pub crowded_insertion_law : CrowdedInsertionLaw V limit eq hash
-    crowded_insertion_law m k granted before after passed s none costs l = grind (arith, common_steps, crowded_probe_law, insertion_most, is_some, looks_most, switched_fits)
+    crowded_insertion_law m k granted before after passed s none costs l = grind (arith, common_steps, crowded_probe_law, is_some, looks_most, switched_fits)
 
   keys-permutation : (xs ys : List (K × V)) → IsPermutation xs ys → IsPermutation (keys_of xs) (keys_of ys)
   keys-permutation xs ys p = IsPermutation-map (λ (e : K × V). e.0) xs ys p
@@ -192,18 +157,15 @@ module _ {K V S : Type 0} (hash : S → K → ℕ) where
 
   pub history_law : HistoryLaw V hash
   history_law a b test wanted asked a_before a_after b_before b_after same unheld a_costs b_costs =
-      let alike : cost_asking test wanted asked a
-      ≡ cost_asking test wanted asked (state_with a b.is_vec a.pairs b.capacity b.builder) =
-      λ i. cost_asking test wanted asked (state_with a (same.form i) a.pairs (same.capacity i) (same.builder i)) in
-      let moved : cost_asking test wanted asked (state_with a b.is_vec a.pairs b.capacity b.builder)
-      ≡ cost_asking test wanted asked b = λ i. record {
+      let moved : cost_asking test wanted asked a ≡ cost_asking test wanted asked b =
+      rw (same.form, same.capacity, same.builder) (λ i. record {
         asked = asked;
         compared = compares-same b.builder a.pairs b.pairs same.pairs test wanted b.is_vec
             (and_right b.is_vec (holds_by test a.pairs) unheld) i;
         looked = looks-same b.builder a.pairs b.pairs same.pairs test wanted b.is_vec b.capacity i;
-      } in (
+      }) in (
         least_work (cost_asking test wanted asked b),
-        subst (λ cost. GrewExactlyBy (least_work cost) a_before a_after) (alike ∙ moved)
+        subst (λ cost. GrewExactlyBy (least_work cost) a_before a_after) moved
             (search_exactly a test wanted asked a_before a_after unheld a_costs),
         search_exactly b test wanted asked b_before b_after (sym (held-same b.builder a.pairs b.pairs same.pairs test wanted) ∙ unheld)
             b_costs,
@@ -281,9 +243,6 @@ module _ {K V S : Type 0} (hash : S → K → ℕ) where
           insert-same none = λ i. record { asked = insert-asked i; compared = insert-compared none i; looked = insert-looked i }
 
           -- an insertion by a raw entry
-          raw-asked : (raw_insert_cost limit eq hash first k granted).asked ≡ (raw_insert_cost limit eq hash second k granted).asked
-          raw-asked = simp (long, held k)
-
           raw-looked : (raw_insert_cost limit eq hash first k granted).looked ≡ (raw_insert_cost limit eq hash second k granted).looked
           raw-looked = simp (long, held k, found k, looked k)
 
@@ -301,7 +260,7 @@ module _ {K V S : Type 0} (hash : S → K → ℕ) where
       hashes-same (Insert k v) granted = insert-asked k granted
       hashes-same (InsertNew k v) granted = ap (λ cost. search_asked is_vec + cost.asked) (added-same k granted)
       hashes-same (EntryOrInsert k v) granted = insert-asked k granted
-      hashes-same (RawOrInsert k v) granted = raw-asked k granted
+      hashes-same (RawOrInsert k v) granted = simp (long, held k)
       hashes-same command granted = refl
 
       buckets-same : (command : Command K V) (granted : Bool)

@@ -1,11 +1,8 @@
 -- How seldom a search reads many buckets.
-use Rattle.std.proofs.Common.{ℕ, arith, map, is_some}
-use Rattle.std.proofs.lemmas.Grind.{common_steps}
-use Rattle.std.specs.Map.{keys_of}
-use Rattle.half_store.specs.Capacity.{buckets_of}
+use Rattle.half_laws.proofs.Common.{ℕ, arith, map, is_some, common_steps, keys_of, buckets_of, InHalfFullTables, InTables}
 use Rattle.half_mean.specs.Tail.{LongProbesAreRare, LongTablesAreRare}
-use Rattle.half_mean.proofs.lemmas.TailLaws.{half_full_probes, capacity_probes, half_full_tables, capacity_tables, reach-longest}
-use Rattle.half_laws.specs.MeanLaws.{InHalfFullTables, InTables}
+use Rattle.half_mean.proofs.lemmas.TailLaws.{half_full_probes, capacity_probes, half_full_tables, capacity_tables}
+use Rattle.half_mean.proofs.lemmas.TailLaws.{reach-longest}
 use Rattle.half_laws.specs.TailLaws.{LongMissesAreRare, MostReadsLaw, LongSearchesAreRare}
 use Rattle.half_laws.proofs.lemmas.means.{in_half_full_tables, in_tables}
 use Rattle.half_laws.proofs.lemmas.searches.{looks_most}

@@ -1,5 +1,6 @@
 //! Why a value was not read, not changed, or not written.
 ghost use Rattle.std.specs.Prelude.{◌≡◌};
+ghost use Rattle.json_value.specs.declared.value.error.Error.TheVariants.{Memory};
 
 use halfbrown::{Refusal, Refused};
 use std::alloc::{AllocError, AllocFailed};
@@ -45,8 +46,6 @@ impl From<json::Error> for Error {
 }
 
 impl From<AllocError> for Error {
-    ghost use Rattle.json_value.specs.declared.value.error.Error.TheVariants.{Memory};
-
     ghost from_gives = { λ _ error. error ≡ Memory };
 
     fn from(_error: AllocError) -> Error {
@@ -55,8 +54,6 @@ impl From<AllocError> for Error {
 }
 
 impl<T: Drop> From<AllocFailed<T>> for Error {
-    ghost use Rattle.json_value.specs.declared.value.error.Error.TheVariants.{Memory};
-
     ghost from_gives = { λ _ error. error ≡ Memory };
 
     fn from(_failed: AllocFailed<T>) -> Error {
@@ -66,8 +63,6 @@ impl<T: Drop> From<AllocFailed<T>> for Error {
 
 // A map refuses what is too large as it does what there is no memory for.
 impl From<Refusal> for Error {
-    ghost use Rattle.json_value.specs.declared.value.error.Error.TheVariants.{Memory};
-
     ghost from_gives = { λ _ error. error ≡ Memory };
 
     fn from(_why: Refusal) -> Error {
@@ -76,8 +71,6 @@ impl From<Refusal> for Error {
 }
 
 impl<K: Drop, V: Drop> From<Refused<K, V>> for Error {
-    ghost use Rattle.json_value.specs.declared.value.error.Error.TheVariants.{Memory};
-
     ghost from_gives = { λ _ error. error ≡ Memory };
 
     fn from(_refused: Refused<K, V>) -> Error {

@@ -1,21 +1,14 @@
 -- What a step does to pairs and capacity: it puts a pair, or keeps the capacity and adds none, or shrinks. `Reserve` is left
 -- out.
-use Rattle.std.proofs.Common.{◌≡◌, ℕ, ◌+◌, ◌≤◌, ◌⊎◌, inl, inr, Bool, true, false, length, Option, None, Some, arith}
-use Rattle.std.proofs.Common.{if◌then◌else◌}
-use Rattle.std.proofs.lemmas.Grind.{common_steps}
-use Rattle.std.specs.Prelude.{IfSome, MatchBool}
+use Rattle.half_laws.proofs.Common.{◌≡◌, ℕ, ◌+◌, ◌≤◌, ◌⊎◌, inl, inr, Bool, true, false, length, Option, None, Some, arith}
+use Rattle.half_laws.proofs.Common.{if◌then◌else◌, common_steps, IfSome, Command, InsertNew, capacity_for_growth}
+use Rattle.half_laws.proofs.Common.{capacity_for_new_key, capacity_for_insert, is_full, IsShrunk, holds, State, Step, Executes}
+use Rattle.half_laws.proofs.Common.{IsValidStep, Leaves, is_shrink, len_taken, is_reserve}
+use Rattle.std.specs.Prelude.{MatchBool}
 use Rattle.std.proofs.lemmas.Bool.Decides.{nat_tests}
-use Rattle.halfbrown.specs.declared.run.Command.{Command}
-use Rattle.halfbrown.specs.declared.run.Command.TheVariants.{InsertNew}
 use Rattle.halfbrown.specs.declared.run.Reply.{Reply}
 use Rattle.halfbrown.specs.declared.run.Reply.TheVariants.{Refused}
-use Rattle.halfbrown.specs.Growth.{capacity_for_growth, capacity_for_new_key, capacity_for_insert, is_full, IsShrunk}
 use Rattle.halfbrown.specs.Insertion.{Puts}
-use Rattle.halfbrown.specs.Pairs.{holds}
-use Rattle.halfbrown.specs.State.{State}
-use Rattle.halfbrown.specs.Run.{Step, Executes, IsValidStep, Leaves, is_shrink}
-use Rattle.halfbrown.proofs.callers.Pairs.{len_taken}
-use Rattle.half_laws.specs.RunLaws.{is_reserve}
 
 module _ {K V S : Type 0} where
   -- capacity is asked only for one pair more, and only if none is left

@@ -1,26 +1,13 @@
 -- The laws of form and of hashes, by induction over the steps.
-use Rattle.std.proofs.Common.{◌≡◌, ◌∙◌, ℕ, ◌+◌, ◌*◌, ◌≤◌, Bool, true, false, not, ◌&&◌, ◌||◌, ◌==◌, List, [], ◌∷◌, length, fold, count_by, cond}
-use Rattle.std.proofs.Common.{Option, None, Some, unwrap_or, ap, refl, arith}
-use Rattle.std.proofs.lemmas.Grind.{common_steps}
+use Rattle.half_laws.proofs.Common.{◌≡◌, ◌∙◌, ℕ, ◌+◌, ◌*◌, ◌≤◌, Bool, true, false, not, ◌&&◌, ◌==◌, List, [], ◌∷◌, length, fold}
+use Rattle.half_laws.proofs.Common.{count_by, cond, Option, None, unwrap_or, ap, refl, arith, common_steps, sum_by-cons}
+use Rattle.half_laws.proofs.Common.{StepsLead, has_shrink, commands_of, cost_of, Step, IsValidStep, says_put, is_shrink}
+use Rattle.half_laws.proofs.Common.{switches, State, form_stays, neither, steps_pay_two, table_stays, form_changed, FormLaw}
+use Rattle.half_laws.proofs.Common.{SwitchLaw, TableLaw, OneSwitchLaw, UnswitchedLaw, NothingHashedLaw, HashesLaw}
+use Rattle.half_laws.proofs.Common.{AmortizedHashesLaw}
 use Rattle.std.specs.List.{list_any}
 use Rattle.std.specs.Option.{option_or}
-use Rattle.std.proofs.lemmas.List.Sums.{sum_by-cons}
-use Rattle.halfbrown.specs.Run.{StepsLead, has_shrink, commands_of, cost_of, Step, IsValidStep, says_put, is_shrink, switches}
-use Rattle.halfbrown.specs.State.{State}
-use Rattle.halfbrown.proofs.lemmas.map.Growth.{form_stays}
-use Rattle.halfbrown.proofs.lemmas.run.Runs.{neither, steps_pay_two, table_stays}
 use Rattle.halfbrown.proofs.lemmas.run.Steps.{form_unshrunk, asked_of_step, most_asked, switch_left_most}
-use Rattle.half_laws.specs.RunLaws.{form_changed, FormLaw, SwitchLaw, TableLaw, OneSwitchLaw, UnswitchedLaw, NothingHashedLaw, HashesLaw, AmortizedHashesLaw}
-
--- the last change counts
-last_of_both : (last earlier : Option Bool) (first : Bool)
-    → unwrap_or last (unwrap_or earlier first) ≡ unwrap_or (option_or last earlier) first
-last_of_both None earlier first = refl
-last_of_both (Some is_vec) earlier first = refl
-
--- nothing switches if neither a step nor what follows it does
-neither_switches : (v now later : Bool) → ((v && not now) && not later) ≡ (v && not (now || later))
-neither_switches v now later = grind (arith, common_steps)
 
 -- one switch, or none
 abbrev once_if : Bool → ℕ
@@ -34,10 +21,6 @@ most_of_both limit later switched v = grind (arith, common_steps)
 once_less : (v long puts : Bool) → once_if (puts && (v && long)) + once_if (v && not (puts && (v && long))) ≤ once_if v
 once_less v long puts = grind (arith, common_steps)
 
-once_most : (v : Bool) → once_if v ≤ 1
-once_most true = omega arith
-once_most false = omega arith
-
 module _ {K V S : Type 0} (limit : ℕ) (eq : K → K → Bool) where
   pub form_of_step : (s : Step K V S) → IsValidStep limit eq s → s.after.is_vec ≡ unwrap_or (form_changed limit s) s.before.is_vec
   form_of_step s step = grind (arith, common_steps)
@@ -47,9 +30,8 @@ module _ {K V S : Type 0} (limit : ℕ) (eq : K → K → Bool) where
       → new.is_vec ≡ unwrap_or (fold (λ earlier s. option_or (form_changed limit s) earlier) earlier steps) first
   form_after first old new [] earlier lead form = ap (λ m. m.is_vec) lead ∙ form
   form_after first old new (s ∷ steps) earlier lead form =
-      form_after first s.after new steps (option_or (form_changed limit s) earlier) lead.3
-      (form_of_step s lead.1 ∙ ap (unwrap_or (form_changed limit s)) (ap (λ m. m.is_vec) lead.0 ∙ form)
-      ∙ last_of_both (form_changed limit s) earlier first)
+      let now = form_of_step s lead.1 in
+      form_after first s.after new steps (option_or (form_changed limit s) earlier) lead.3 (grind (arith, common_steps))
 
   pub form_law : FormLaw V S limit eq
   form_law old new steps lead = form_after old.is_vec old new steps None lead refl
@@ -58,9 +40,8 @@ module _ {K V S : Type 0} (limit : ℕ) (eq : K → K → Bool) where
   switch_law old new [] lead none = ap (λ m. m.is_vec) lead ∙ form_stays old.is_vec false refl
   switch_law old new (s ∷ steps) lead none =
       let parts = neither (is_shrink s.command) (has_shrink (commands_of steps)) none in
-      let later = list_any (switches limit) steps in
-      switch_law s.after new steps lead.3 parts.1 ∙ ap (λ v. v && not later) (form_unshrunk limit eq s lead.1 parts.0)
-      ∙ neither_switches s.before.is_vec (switches limit s) later ∙ ap (λ m. m.is_vec && not (switches limit s || later)) lead.0
+      let later = switch_law s.after new steps lead.3 parts.1 in
+      grind (arith, common_steps, form_unshrunk limit eq s lead.1 parts.0)
 
   switches_most : (old new : State K V S) (steps : List (Step K V S)) → StepsLead limit eq old steps new → has_shrink (commands_of steps) ≡ false
       → count_by (switches limit) steps ≤ once_if old.is_vec
@@ -77,7 +58,7 @@ module _ {K V S : Type 0} (limit : ℕ) (eq : K → K → Bool) where
       )
 
   pub one_switch_law : OneSwitchLaw V S limit eq
-  one_switch_law old new steps lead none = omega (arith, switches_most old new steps lead none, once_most old.is_vec)
+  one_switch_law old new steps lead none = grind (arith, common_steps, switches_most old new steps lead none)
 
   module _ (hash : S → K → ℕ) where
     pub table_law : TableLaw V S limit eq

@@ -1,28 +1,18 @@
 -- How much capacity and memory a run leaves, by induction over the steps.
-use Rattle.std.proofs.Common.{◌≡◌, ℕ, zero, suc, ◌+◌, ◌*◌, ◌≤◌, max, inl, inr, Bool, true, false, List, [], ◌∷◌, length, fold, Option}
-use Rattle.std.proofs.Common.{Some, sym, ap, subst, arith, if◌then◌else◌}
-use Rattle.std.proofs.lemmas.Grind.{common_steps}
-use Rattle.half_store.specs.Capacity.{IsBucketCount, capacity_of, buckets_of, bucket_count_for_one_more, least_buckets, least_table_capacity}
-use Rattle.half_store.specs.Capacity.{least_capacity, is_vec_shrunk}
+use Rattle.half_laws.proofs.Common.{◌≡◌, ℕ, zero, suc, ◌+◌, ◌*◌, ◌≤◌, max, inl, inr, Bool, true, false, List, [], ◌∷◌, length}
+use Rattle.half_laws.proofs.Common.{fold, Option, Some, sym, ap, subst, arith, if◌then◌else◌, common_steps, buckets_of}
+use Rattle.half_laws.proofs.Common.{least_table_capacity, least_capacity, is_vec_shrunk, buckets_for-least, is_full}
+use Rattle.half_laws.proofs.Common.{is_vec_after, capacity_after, IsShrunk, StepsLead, commands_of, Step, IsValidStep, State}
+use Rattle.half_laws.proofs.Common.{IsValid, full_len, neither, CapacityLaw, BytesLaw, is_reserve, has_reserve, most_held}
+use Rattle.half_store.specs.Capacity.{least_buckets}
 use Rattle.half_store.specs.Arrays.{bytes}
 use Rattle.half_store.specs.Words.{word_size}
-use Rattle.half_store.proofs.lemmas.capacity.{buckets_for-least}
-use Rattle.halfbrown.specs.Growth.{is_full, is_vec_after, capacity_after, IsShrunk}
-use Rattle.halfbrown.specs.Run.{StepsLead, commands_of, Step, IsValidStep}
-use Rattle.halfbrown.specs.State.{State, IsValid}
-use Rattle.halfbrown.proofs.lemmas.map.Growth.{full_len}
-use Rattle.halfbrown.proofs.lemmas.run.Runs.{neither}
-use Rattle.half_laws.specs.RunLaws.{CapacityLaw, BytesLaw, is_reserve, has_reserve, most_held}
 use Rattle.half_laws.proofs.lemmas.runs.Changes.{IsDue, Changes, step_changes}
-
--- the next of the series is twice as large, or 3
-more_most : (n m : ℕ) → IsBucketCount m → capacity_of m ≤ 2 * n + 1 → capacity_of (bucket_count_for_one_more n m) ≤ 2 * suc n + 1
-more_most n m count few = grind (arith, common_steps)
 
 capacity_for-most : (n : ℕ) → least_table_capacity n ≤ 2 * n + 1
 unfolding least_buckets
 capacity_for-most zero = omega arith
-capacity_for-most (suc n) = more_most n (least_buckets n) (buckets_for-least n).count (capacity_for-most n)
+capacity_for-most (suc n) = grind (arith, common_steps, capacity_for-most n, buckets_for-least n)
 
 -- the most of all is at least that of the beginning
 most_least : {X : Type 0} (f : X → ℕ) (xs : List X) (n : ℕ) → n ≤ fold (λ most x. max most (f x)) n xs

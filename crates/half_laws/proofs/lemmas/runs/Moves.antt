@@ -1,20 +1,12 @@
 -- How many pairs a run moves: each step pays two, and what a map has paid and not used is its credit.
-use Rattle.std.proofs.Common.{◌≡◌, ℕ, suc, ◌+◌, ◌-◌, ◌*◌, ◌≤◌, nat_lt, ◌==◌, inl, inr, Bool, true, false, List}
-use Rattle.std.proofs.Common.{[], ◌∷◌, length, sum_by, Option, ap, sym, refl, subst, arith, if◌then◌else◌}
-use Rattle.std.proofs.lemmas.Grind.{common_steps}
-use Rattle.std.proofs.lemmas.Bool.{cases_lt, eq-eqb, le-ltb}
-use Rattle.std.proofs.lemmas.List.Sums.{sum_by-cons}
-use Rattle.half_store.specs.Capacity.{IsBucketCount, capacity_of, next_bucket_count, least_buckets, least_table_capacity, grown_capacity}
-use Rattle.half_store.proofs.lemmas.capacity.{next_bucket_count-some, buckets_for-least, buckets_for-grown, quarter}
-use Rattle.halfbrown.specs.Growth.{is_full, capacity_after}
-use Rattle.halfbrown.specs.Pairs.{put}
-use Rattle.halfbrown.specs.Run.{StepsLead, has_shrink, commands_of, Step, IsValidStep, is_shrink}
-use Rattle.halfbrown.specs.State.{State, IsValid, IsTableCapacity}
-use Rattle.halfbrown.proofs.callers.Pairs.{len_put}
-use Rattle.halfbrown.proofs.lemmas.map.Growth.{full_len, form_stays, and_false}
-use Rattle.halfbrown.proofs.lemmas.run.Runs.{neither}
-use Rattle.half_laws.specs.RunLaws.{MovesLaw, is_reserve, has_reserve, moved}
-use Rattle.std.proofs.lemmas.Bool.{and_parts}
+use Rattle.half_laws.proofs.Common.{◌≡◌, ℕ, suc, ◌+◌, ◌-◌, ◌*◌, ◌≤◌, nat_lt, ◌==◌, inl, inr, Bool, true, false, List, [], ◌∷◌}
+use Rattle.half_laws.proofs.Common.{length, sum_by, Option, ap, sym, subst, arith, if◌then◌else◌, common_steps, cases_lt}
+use Rattle.half_laws.proofs.Common.{and_parts, sum_by-cons, IsBucketCount, capacity_of, next_bucket_count, least_buckets}
+use Rattle.half_laws.proofs.Common.{least_table_capacity, grown_capacity, next_bucket_count-some, buckets_for-least}
+use Rattle.half_laws.proofs.Common.{buckets_for-grown, quarter, is_full, capacity_after, put, StepsLead, has_shrink}
+use Rattle.half_laws.proofs.Common.{commands_of, Step, IsValidStep, is_shrink, State, IsValid, IsTableCapacity, len_put}
+use Rattle.half_laws.proofs.Common.{full_len, form_stays, and_false, neither, MovesLaw, is_reserve, has_reserve, moved}
+use Rattle.std.proofs.lemmas.Bool.Decides.{nat_tests}
 use Rattle.half_laws.proofs.lemmas.runs.Changes.{IsDue, PutsDue, step_changes}
 
 -- twice the capacity, when a table grows
@@ -36,9 +28,6 @@ table_doubles capacity is =
 abbrev budget : ℕ → Bool → ℕ → ℕ
 budget limit is_vec capacity = if is_vec then (if nat_lt capacity limit then 2 * limit else limit) else 0
 
-budget_high : (limit capacity : ℕ) → limit ≤ capacity → budget limit true capacity ≡ limit
-budget_high limit capacity high = rw (le-ltb capacity limit high) refl
-
 budget_most : (limit : ℕ) (is_vec : Bool) (capacity : ℕ) → budget limit is_vec capacity ≤ 2 * limit
 budget_most limit is_vec capacity = grind (arith, common_steps)
 
@@ -46,9 +35,6 @@ module _ {K V S : Type 0} (limit : ℕ) (eq : K → K → Bool) where
   -- the pairs that are moved between two states
   abbrev moved_from : State K V S → State K V S → ℕ
   moved_from old new = if new.capacity == old.capacity then 0 else length old.pairs
-
-  moved_none : (old new : State K V S) → new.capacity ≡ old.capacity → moved_from old new ≡ 0
-  moved_none old new same = rw (eq-eqb new.capacity old.capacity same) refl
 
   -- what was paid and not used
   abbrev credit : State K V S → ℕ
@@ -64,11 +50,10 @@ module _ {K V S : Type 0} (limit : ℕ) (eq : K → K → Bool) where
 
     -- the capacity stays
     stays_pays : new.is_vec ≡ old.is_vec → new.capacity ≡ old.capacity → Pays old new
-    stays_pays form capacity =
-        omega (arith, moved_none old new capacity, ap (λ v. budget limit v new.capacity) form, ap (budget limit old.is_vec) capacity)
+    stays_pays form capacity = grind (arith, common_steps, nat_tests)
 
     switch_pays : is_full limit old ≡ true → new.is_vec ≡ false → new.capacity ≡ least_table_capacity (limit + 1) → Pays old new
-    switch_pays full form capacity = grind (arith, common_steps, buckets_for-least, budget_high, and_parts, full_len, moves)
+    switch_pays full form capacity = grind (arith, common_steps, nat_tests, buckets_for-least, and_parts, full_len, moves)
 
     vector_pays : is_full limit old ≡ false → old.is_vec ≡ true → new.is_vec ≡ old.is_vec → old.capacity ≤ length old.pairs
         → new.capacity ≡ grown_capacity limit old.capacity (length old.pairs + 1) → Pays old new

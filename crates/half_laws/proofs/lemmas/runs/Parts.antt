@@ -1,12 +1,7 @@
 -- A run of two lists of commands: its steps are those of the first, and then those of the second.
-use Rattle.std.proofs.Common.{◌≡◌, ◌∙◌, ℕ, Bool, List, [], ◌∷◌, ◌++◌, ap, refl, sym, subst}
-use Rattle.std.proofs.lemmas.List.{map-append}
-use Rattle.halfbrown.specs.declared.run.Command.{Command}
-use Rattle.halfbrown.specs.CostRanges.{add_costs}
-use Rattle.halfbrown.specs.Run.{StepsLead, commands_of, replies_of, cost_of, Step}
-use Rattle.halfbrown.specs.State.{State}
-use Rattle.halfbrown.proofs.lemmas.run.Runs.{lead_on, cost_of-append}
-use Rattle.half_laws.specs.RunLaws.{SplitLaw, JoinLaw}
+use Rattle.half_laws.proofs.Common.{◌≡◌, ◌∙◌, ℕ, Bool, List, [], ◌∷◌, ◌++◌, ap, refl, sym, subst, map-append, Command}
+use Rattle.half_laws.proofs.Common.{add_costs, StepsLead, commands_of, replies_of, cost_of, Step, State, lead_on}
+use Rattle.half_laws.proofs.Common.{cost_of-append, SplitLaw, JoinLaw}
 
 module _ {K V S : Type 0} where
   -- the steps of the first commands, and those of the second

@@ -1,17 +1,11 @@
 -- What decides the replies: form and pairs before a command, the command, and the refusal. They also decide form and pairs
 -- after it.
-use Rattle.std.proofs.Common.{◌≡◌, ℕ, Bool, not, ◌&&◌, List, [], ◌∷◌, Option, None, Some, unwrap_or, arith, ap, refl, if◌then◌else◌}
-use Rattle.std.proofs.lemmas.Grind.{common_steps}
+use Rattle.half_laws.proofs.Common.{◌≡◌, ℕ, Bool, not, ◌&&◌, List, [], ◌∷◌, Option, unwrap_or, arith, ap, refl, if◌then◌else◌}
+use Rattle.half_laws.proofs.Common.{common_steps, Command, Insert, InsertNew, EntryOrInsert, RawOrInsert, Remove, Clear, holds}
+use Rattle.half_laws.proofs.Common.{put, swap_out, State, Step, IsValidStep, Leaves, value_or, refusal_in, is_shrink, says_vec}
+use Rattle.half_laws.proofs.Common.{IsAlike, RepliesLaw, outcomes_of}
 use Rattle.half_store.specs.declared.refusal.Refusal.{Refusal}
-use Rattle.halfbrown.specs.declared.run.Command.{Command}
-use Rattle.halfbrown.specs.declared.run.Command.TheVariants.{Insert, InsertNew, EntryOrInsert, RawOrInsert, Remove, Clear}
-use Rattle.halfbrown.specs.declared.run.Reply.{Reply}
-use Rattle.halfbrown.specs.declared.run.Reply.TheVariants.{Refused}
-use Rattle.halfbrown.specs.Pairs.{holds, put, swap_out}
-use Rattle.halfbrown.specs.State.{State}
-use Rattle.halfbrown.specs.Run.{Step, Executes, IsValidStep, Leaves, value_or, granted_reply, refusal_in, is_shrink}
 use Rattle.half_laws.proofs.lemmas.runs.Laws.{form_of_step}
-use Rattle.half_laws.specs.RunLaws.{says_vec, IsAlike, RepliesLaw, outcomes_of}
 
 module _ {K V : Type 0} (limit : ℕ) (eq : K → K → Bool) where
   -- the pairs after a granted command
@@ -24,31 +18,16 @@ module _ {K V : Type 0} (limit : ℕ) (eq : K → K → Bool) where
   pairs_after pairs Clear = []
   pairs_after pairs command = pairs
 
-  -- reply and pairs, by the refusal
-  abbrev reply_by : Option Refusal → Bool → List (K × V) → Command K V → Reply K V
-  reply_by None is_vec pairs command = granted_reply eq is_vec pairs command
-  reply_by (Some why) is_vec pairs command = Refused command why
-
-  abbrev pairs_by : Option Refusal → List (K × V) → Command K V → List (K × V)
-  pairs_by None pairs command = pairs_after pairs command
-  pairs_by (Some why) pairs command = pairs
-
 module _ {K V S : Type 0} (limit : ℕ) (eq : K → K → Bool) where
   pairs_left : (old new : State K V S) (command : Command K V) → Leaves limit eq old command new
       → new.pairs ≡ pairs_after limit eq old.pairs command
   pairs_left old new command leaves = grind (arith, common_steps)
 
-  answered : (old new : State K V S) (command : Command K V) (reply : Reply K V) → Executes limit eq old command reply new
-      → (reply ≡ reply_by limit eq (refusal_in reply) new.is_vec old.pairs command)
-      × (new.pairs ≡ pairs_by limit eq (refusal_in reply) old.pairs command)
-  answered old new command (Refused back why) step = ((λ i. Refused (step.0 i) why), ap (λ m. m.pairs) step.2)
-  answered old new command reply step = (step.0, pairs_left old new command step.1)
-
   step_alike : (s t : Step K V S) → IsValidStep limit eq s → IsValidStep limit eq t → IsAlike s.before t.before → s.command ≡ t.command
       → refusal_in s.reply ≡ refusal_in t.reply
       → (is_shrink s.command && says_vec s.reply) ≡ (is_shrink t.command && says_vec t.reply)
       → (s.reply ≡ t.reply) × IsAlike s.after t.after
-  step_alike s t s_step t_step alike command refusal form = grind (arith, common_steps, answered, form_of_step, not, unwrap_or)
+  step_alike s t s_step t_step alike command refusal form = grind (arith, common_steps, pairs_left, form_of_step, not, unwrap_or)
 
   same_alike : (a b c d : State K V S) → IsAlike a b → c ≡ a → d ≡ b → IsAlike c d
   same_alike a b c d alike left right = record { form = cc; pairs = cc }

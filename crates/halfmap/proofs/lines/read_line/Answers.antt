@@ -1,4 +1,4 @@
-use Rattle.std.proofs.Common.{◌≡◌, Ok, false, ap, ◌∙◌}
+use Rattle.halfmap.proofs.Common.{◌≡◌, Ok, false, ap, ◌∙◌}
 use Rattle.halfmap.proofs.Reading.{on_err, part_taken, stays_open, line_read}
 use Rattle.halfmap.proofs.lines.read_line.Goals as goal
 

@@ -1,4 +1,4 @@
-use Rattle.std.specs.Io.Buffered.{reader_remaining}
+use Rattle.halfmap.proofs.Common.{reader_remaining}
 use Rattle.halfmap.proofs.Reading.{IsOpenLine}
 use Rattle.halfmap.proofs.lines.read_line.Given as goal
 

@@ -1,6 +1,4 @@
-use Rattle.std.proofs.Common.{[], length, take, Some, refl, subst}
-use Rattle.std.specs.Io.BufRead.{FillKeeps}
-use Rattle.std.specs.Io.Buffered.{reader_remaining, reader_buffer}
+use Rattle.halfmap.proofs.Common.{[], length, take, Some, refl, subst, FillKeeps, reader_remaining, reader_buffer}
 use Rattle.halfmap.proofs.Reading.{no_flag, reads_nothing, keeps_nothing, reads_shown}
 use Rattle.halfmap.proofs.lines.read_part.Goals as goal
 

@@ -1,6 +1,4 @@
-use Rattle.std.proofs.Common.{Some}
-use Rattle.std.proofs.lemmas.Bool.Decides.{Decides-eqb}
-use Rattle.std.proofs.lemmas.Slice.Eq.{strip_prefix_is}
+use Rattle.halfmap.proofs.Common.{Some, Decides-eqb, strip_prefix_is}
 use Rattle.halfmap.proofs.Words.{none_then, some_maps, none_maps, no_letters, no_number_behind, number_behind}
 use Rattle.halfmap.proofs.request.number_after.Goals as goal
 

@@ -1,7 +1,4 @@
-use Rattle.std.proofs.Common.{◌≡◌, ◌++◌, Some, rules}
-use Rattle.std.specs.Prelude.{codes}
-use Rattle.std.proofs.lemmas.Bool.Decides.{Decides-eqb}
-use Rattle.std.proofs.lemmas.Slice.Eq.{strip_prefix_is}
+use Rattle.halfmap.proofs.Common.{◌≡◌, ◌++◌, Some, rules, codes, Decides-eqb, strip_prefix_is}
 use Rattle.halfmap.proofs.Words.{none_then, no_request}
 use Rattle.halfmap.proofs.request.parse.Goals as goal
 

@@ -1,5 +1,4 @@
-use Rattle.std.proofs.Common.{sym, arith}
-use Rattle.std.proofs.lemmas.Grind.{common_steps}
+use Rattle.halfmap.proofs.Common.{sym, arith, common_steps}
 use Rattle.halfmap.proofs.Words.{none_then, no_first_space, no_first_number, no_second_number}
 use Rattle.halfmap.proofs.request.two_numbers.Goals as goal
 

@@ -1,5 +1,4 @@
-use Rattle.std.proofs.Common.{List, ℕ, subst, ◌∙◌}
-use Rattle.halfmap.specs.Answer.{AnswersLine}
+use Rattle.halfmap.proofs.Common.{List, ℕ, subst, ◌∙◌, AnswersLine}
 use Rattle.halfmap.proofs.Serving.{serves_nothing, serves_line, serves_all, some_line, no_line}
 use Rattle.halfmap.proofs.LongLines.{answers_line}
 use Rattle.halfmap.proofs.session.answer_lines.Goals as goal

@@ -1,4 +1,4 @@
-use Rattle.std.specs.Io.Buffered.{reader_remaining, writer_contents}
+use Rattle.halfmap.proofs.Common.{reader_remaining, writer_contents}
 use Rattle.halfmap.proofs.Serving.{IsServed}
 use Rattle.halfmap.proofs.session.answer_lines.Given as goal
 

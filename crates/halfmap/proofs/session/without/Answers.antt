@@ -1,6 +1,4 @@
-use Rattle.std.proofs.Common.{Some, None, inl, inr, refl}
-use Rattle.std.proofs.lemmas.Bool.Decides.{Decides-eqb}
-use Rattle.std.proofs.lemmas.Slice.Eq.{strip_suffix_is}
+use Rattle.halfmap.proofs.Common.{Some, None, inl, inr, refl, Decides-eqb, strip_suffix_is}
 use Rattle.halfmap.proofs.session.without.Goals as goal
 
 pub returns-in-Some : goal.returns-in-Some

@@ -1,8 +1,5 @@
-use Rattle.std.proofs.Common.{◌≡◌, refl, sym, ap, ◌∙◌, ◌++◌, ◌∷◌, [], rules}
-use Rattle.std.proofs.lemmas.List.{append_assoc, map-id}
+use Rattle.json_value.proofs.Common.{◌≡◌, refl, sym, ap, ◌∙◌, ◌++◌, ◌∷◌, [], rules, append_assoc, map-id, string_eq, put_all}
 use Rattle.std.proofs.lemmas.Map.Iter.{iter_end, rest_so_far}
-use Rattle.std.specs.String.{string_eq}
-use Rattle.halfbrown.specs.Collect.{put_all}
 use Rattle.halfbrown.proofs.lemmas.map.Collect.{inserts_pairs}
 use Rattle.json_value.proofs.Merging.{err_also}
 use Rattle.json_value.proofs.value.put_each.Goals as goal

@@ -1,16 +1,8 @@
-use Rattle.std.proofs.Common.{◌≡◌, ◌||◌, Bool, List, true, ap, refl, ◌∙◌}
+use Rattle.std.proofs.Common.{refl, ◌∙◌}
 use Rattle.std.proofs.iter.SoFar.{exit_by}
-use Rattle.std.specs.Cmp.{IsEquivalence}
-use Rattle.std.specs.Set.{is_member}
-use Rattle.halfbrown.specs.ByKey.{add_keys}
 use Rattle.halfbrown.proofs.lemmas.map.Collect.{at_error, yields_more}
 use Rattle.half_set.proofs.Sets.{union_added}
 use Rattle.half_set.proofs.hash_set.HashSet.extend.Goals as goal
-
--- what was a member is one
-member_kept : {T : Type 0} {eq : T → T → Bool} → IsEquivalence eq → (xs more : List T) (q : T) → is_member eq xs q ≡ true
-    → is_member eq (add_keys eq xs more) q ≡ true
-member_kept {eq = eq} laws xs more q held = union_added laws xs more q ∙ ap (λ b. b || is_member eq more q) held
 
 pub returns-clause-extended : goal.returns-clause-extended
 returns-clause-extended g c =
@@ -34,11 +26,3 @@ returns-in_err-insert-clause-refused g c =
       c.in_err-insert.ensures.err ∙ c.loop-item.invariant.2,
       rw c.in_err-insert.ensures.err c.in_err-insert.ensures.why,
     )).1
-
-pub returns-clause-kept : goal.returns-clause-kept
-returns-clause-kept g c = λ value held.
-    rw c.loop-item.invariant.2 (member_kept g.met.T.Eq.laws c.args.self.now c.loop-item.yielded value held)
-
-pub returns-in_err-insert-clause-kept : goal.returns-in_err-insert-clause-kept
-returns-in_err-insert-clause-kept g c = λ value held.
-    rw (c.in_err-insert.ensures.err ∙ c.loop-item.invariant.2) (member_kept g.met.T.Eq.laws c.args.self.now c.loop-item.yielded value held)

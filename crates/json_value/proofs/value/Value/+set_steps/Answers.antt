@@ -1,10 +1,6 @@
-use Rattle.std.proofs.Common.{◌≡◌, ◌∷◌, Some, slice_get, arith, rules}
-use Rattle.std.proofs.lemmas.Grind.{common_steps}
-use Rattle.std.proofs.lemmas.Option.{gets}
-use Rattle.std.specs.Option.{option_copied}
+use Rattle.json_value.proofs.Common.{◌≡◌, ◌∷◌, Some, slice_get, arith, rules, common_steps, gets, option_copied, steps_of}
 use Rattle.json_value.proofs.Changing.{puts_item}
 use Rattle.json_value.proofs.value.Value.+set_steps.Goals as goal
-use Rattle.json_value.specs.Pointer.{steps_of}
 
 pub returns-in_ok-get_mut-in-List-clause-after : goal.returns-in_ok-get_mut-in-List-clause-after
 returns-in_ok-get_mut-in-List-clause-after t c =

@@ -1,17 +1,13 @@
-use Rattle.std.proofs.Common.{◌≡◌, ◌+◌, ◌≤◌, [], ◌∷◌, ◌++◌, map, take, append-nil, sym, ap, subst, ◌∙◌, arith, rules}
-use Rattle.std.proofs.lemmas.List.{append_assoc, flat_map_more, map-append, take_all, take_more}
-use Rattle.std.specs.List.{flat_map}
-use Rattle.std.specs.Map.Iter.{deref_pair}
-use Rattle.std.specs.String.{string_bytes}
-use Rattle.halfbrown.specs.Iter.{pairs_left}
+use Rattle.json_value.proofs.Common.{◌≡◌, ◌+◌, ◌≤◌, [], ◌∷◌, ◌++◌, map, take, append-nil, sym, ap, subst, ◌∙◌, arith, rules}
+use Rattle.json_value.proofs.Common.{append_assoc, flat_map_more, map-append, take_all, take_more, flat_map, deref_pair}
+use Rattle.json_value.proofs.Common.{string_bytes, pairs_left, items_depth, members_depth, ItemsHaveNumbers, MembersHaveNumbers}
+use Rattle.json_value.proofs.Common.{items_of, json_of}
 use Rattle.json.specs.Token as token
-use Rattle.json.specs.Tree.{items_depth, members_depth, ItemsHaveNumbers, MembersHaveNumbers}
-use Rattle.json.specs.Value.{items_of}
 use Rattle.json_value.proofs.Reading.{seen}
 use Rattle.json_value.proofs.Writing.{json_of-List, json_of-Object, member_tokens, shown, value_tokens, items_nest, members_nest}
 use Rattle.json_value.proofs.Writing.{list_tokens, object_tokens, writable_as, item_writable, member_writable}
 use Rattle.json_value.proofs.value.Value.+write.Goals as goal
-use Rattle.json_value.specs.Json.{json_of, members_of}
+use Rattle.json_value.specs.Json.{members_of}
 
 pub loop-item-preserved : goal.loop-item-preserved
 loop-item-preserved t c =
@@ -22,12 +18,11 @@ loop-item-preserved t c =
     let inner = c.in_ok-inner-in-List.inner in
     let more : take (l.item-index + 1) xs ≡ take l.item-index xs ++ x ∷ [] =
     take_more xs l.item-index x (omega arith) ∙ ap (λ y. take l.item-index xs ++ y ∷ []) (sym c.item-item.is) in
-    let done = c.in_ok-write-in-List.ensures in (
-      done.tokens ∙ ap (λ ts. ts ++ value_tokens x) l.invariant.0 ∙ flat_map_more value_tokens start (take l.item-index xs) x
-          ∙ ap (λ ys. start ++ flat_map value_tokens ys) (sym more),
+    let done = c.in_ok-write-in-List.ensures in
+    rw more (
+      rw (done.tokens, l.invariant.0) (flat_map_more value_tokens start (take l.item-index xs) x),
       done.before ∙ l.invariant.1,
-      subst (λ ys. items_depth (items_of (map json_of ys)) ≤ inner) (sym more)
-          (items_nest inner (take l.item-index xs) x l.invariant.2 done.nests),
+      items_nest inner (take l.item-index xs) x l.invariant.2 done.nests,
     )
 
 pub returns-in_ok-end_array-in-List : goal.returns-in_ok-end_array-in-List
@@ -39,11 +34,9 @@ returns-in_ok-end_array-in-List t c =
     let xs = c.deref-item-items.result.now in
     let step : c.args.depth ≡ inner + 1 = search rules in
     let all : take l.item-index xs ≡ vs.items = take_all l.item-index xs (omega arith) ∙ c.deref-item-items.ensures.value in
-    let begun : start ≡ c.args.writer.now.tokens ++ token.begin_array ∷ [] = search rules in
-    let ended : c.end_array.new.self.tokens ≡ l.writer.tokens ++ token.end_array ∷ [] = search rules in
     let nested : items_depth (items_of (map json_of vs.items)) ≤ inner = rw (← all) l.invariant.2 in
     record {
-      tokens = rw c.in-List.is (list_tokens _ _ _ _ vs begun (l.invariant.0 ∙ ap (λ ys. start ++ flat_map value_tokens ys) all) ended);
+      tokens = rw c.in-List.is (list_tokens _ start _ _ vs (search rules) (l.invariant.0 ∙ ap (λ ys. start ++ flat_map value_tokens ys) all) (search rules));
       before = search rules;
       nests = rw (c.in-List.is, json_of-List vs) (omega (arith, nested, step));
       refused = search rules;
@@ -59,18 +52,14 @@ loop-name-preserved t c =
     let named : c.key.new.self.tokens ≡ l.writer.tokens ++ token.key (string_bytes name) ∷ [] = search rules in
     let kept : c.key.new.self.before ≡ l.writer.before = search rules in
     let more = map-append deref_pair l.yielded ((c.in-Some.name, c.in-Some.member) ∷ []) in
-    let done = c.in_ok-write-in-Object.ensures in (
+    let done = c.in_ok-write-in-Object.ensures in
+    rw more (
       tt,
       tt,
-      done.tokens ∙ ap (λ ts. ts ++ value_tokens v) named
-          ∙ append_assoc l.writer.tokens (token.key (string_bytes name) ∷ []) (value_tokens v)
-          ∙ ap (λ ts. ts ++ member_tokens (name, v)) l.invariant.2 ∙ flat_map_more member_tokens start (shown l.yielded) (name, v)
-          ∙ ap (λ ms. start ++ flat_map member_tokens ms) (sym more),
+      rw (done.tokens, named, append_assoc, l.invariant.2) (flat_map_more member_tokens start (shown l.yielded) (name, v)),
       done.before ∙ kept ∙ l.invariant.3,
-      subst (λ ms. members_depth (members_of (seen ms)) ≤ inner) (sym more)
-          (members_nest inner (shown l.yielded) (name, v) l.invariant.4 done.nests),
-      ap (λ ms. ms ++ pairs_left c.next.new.self) more ∙ append_assoc (shown l.yielded) ((name, v) ∷ []) (pairs_left c.next.new.self)
-          ∙ ap (λ ms. shown l.yielded ++ ms) (sym c.in-Some.ensures.steps) ∙ l.invariant.5,
+      members_nest inner (shown l.yielded) (name, v) l.invariant.4 done.nests,
+      rw (append_assoc, ← c.in-Some.ensures.steps) l.invariant.5,
     )
 
 pub returns-in_ok-end_object-in-Object : goal.returns-in_ok-end_object-in-Object
@@ -83,11 +72,9 @@ returns-in_ok-end_object-in-Object t c =
     let given : pairs_left c.into_iter-name-iterator.result ≡ m.pairs = search rules in
     let all : shown l.yielded ≡ m.pairs =
     sym (append-nil (shown l.yielded)) ∙ ap (λ ms. shown l.yielded ++ ms) (sym c.in-None.ensures.steps.0) ∙ l.invariant.5 ∙ given in
-    let begun : start ≡ c.args.writer.now.tokens ++ token.begin_object ∷ [] = search rules in
-    let ended : c.end_object.new.self.tokens ≡ l.writer.tokens ++ token.end_object ∷ [] = search rules in
     let nested : members_depth (members_of (seen m.pairs)) ≤ inner = rw (← all) l.invariant.4 in
     record {
-      tokens = rw c.in-Object.is (object_tokens _ _ _ _ m begun (l.invariant.2 ∙ ap (λ ms. start ++ flat_map member_tokens ms) all) ended);
+      tokens = rw c.in-Object.is (object_tokens _ start _ _ m (search rules) (l.invariant.2 ∙ ap (λ ms. start ++ flat_map member_tokens ms) all) (search rules));
       before = search rules;
       nests = rw (c.in-Object.is, json_of-Object m) (omega (arith, nested, step));
       refused = search rules;

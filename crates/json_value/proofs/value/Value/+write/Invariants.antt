@@ -1,12 +1,9 @@
-use Rattle.std.proofs.Common.{◌≡◌, ◌≤◌, ◌++◌, map, take}
-use Rattle.std.specs.List.{flat_map}
-use Rattle.halfbrown.specs.Iter.{pairs_left}
-use Rattle.json.specs.Tree.{items_depth, members_depth}
-use Rattle.json.specs.Value.{items_of}
+use Rattle.json_value.proofs.Common.{◌≡◌, ◌≤◌, ◌++◌, map, take, flat_map, pairs_left, items_depth, members_depth, items_of}
+use Rattle.json_value.proofs.Common.{json_of}
 use Rattle.json_value.proofs.Reading.{seen}
 use Rattle.json_value.proofs.Writing.{member_tokens, shown, value_tokens}
 use Rattle.json_value.proofs.value.Value.+write.Given as goal
-use Rattle.json_value.specs.Json.{json_of, members_of}
+use Rattle.json_value.specs.Json.{members_of}
 
 abbrev pub invariant-loop-item : goal.invariant-loop-item
 invariant-loop-item l =

@@ -1,10 +1,6 @@
-use Rattle.std.proofs.Common.{◌≡◌, slice_get, sym, ap, ◌∙◌, arith, rules}
-use Rattle.std.proofs.lemmas.Grind.{common_steps}
-use Rattle.std.proofs.lemmas.Option.{gets}
-use Rattle.std.specs.Option.{option_copied}
+use Rattle.json_value.proofs.Common.{◌≡◌, slice_get, sym, ap, ◌∙◌, arith, rules, common_steps, gets, option_copied, children}
 use Rattle.json_value.proofs.Pointer.{child-at, child-member, children-List}
 use Rattle.json_value.proofs.value.Value.child.Goals as goal
-use Rattle.json_value.specs.Pointer.{children}
 
 pub returns-in-List : goal.returns-in-List
 returns-in-List c =

@@ -1,8 +1,6 @@
-use Rattle.std.proofs.Common.{◌≡◌, IfErr, subst, rules}
+use Rattle.json_value.proofs.Common.{◌≡◌, IfErr, subst, rules, PutsFirst, Memory}
 use Rattle.json_value.proofs.Merging.{merge_refused}
 use Rattle.json_value.proofs.value.Value.merge.Goals as goal
-use Rattle.json_value.specs.Members.{PutsFirst}
-use Rattle.json_value.specs.declared.value.error.Error.TheVariants.{Memory}
 
 pub returns-in-Object-other-clause-err : goal.returns-in-Object-other-clause-err
 returns-in-Object-other-clause-err c =

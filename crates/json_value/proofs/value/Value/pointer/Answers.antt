@@ -1,10 +1,8 @@
-use Rattle.std.proofs.Common.{◌≡◌, ◌==◌, None, option_and_then, sym, ap, ◌∙◌, arith}
+use Rattle.json_value.proofs.Common.{◌≡◌, ◌==◌, None, option_and_then, sym, ap, ◌∙◌, arith, strip_prefix_char, slice_split}
+use Rattle.json_value.proofs.Common.{descendant, value_at}
 use Rattle.std.proofs.lemmas.Iterator.Splits.{YieldsList-from_str_split}
-use Rattle.std.proofs.lemmas.Str.Pattern.{strip_prefix_char}
-use Rattle.std.specs.List.{slice_split}
 use Rattle.json_value.proofs.Pointer.{value_at-no_slash, descendant-step, descendant-end}
 use Rattle.json_value.proofs.value.Value.pointer.Goals as goal
-use Rattle.json_value.specs.Pointer.{descendant, value_at}
 
 pub returns-in_err-strip_prefix : goal.returns-in_err-strip_prefix
 returns-in_err-strip_prefix c =

@@ -1,7 +1,6 @@
-use Rattle.std.proofs.Common.{◌≡◌, ℕ, List}
+use Rattle.json_value.proofs.Common.{◌≡◌, ℕ, List, descendant, value_at}
 use Rattle.json_value.proofs.Pointer.{StepsLeft}
 use Rattle.json_value.proofs.value.Value.pointer.Given as goal
-use Rattle.json_value.specs.Pointer.{descendant, value_at}
 
 abbrev pub invariant-loop-step : goal.invariant-loop-step
 invariant-loop-step l =

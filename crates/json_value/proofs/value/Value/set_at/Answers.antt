@@ -1,9 +1,7 @@
-use Rattle.std.proofs.Common.{◌≡◌, ◌≢◌, None, sym, ◌∙◌, arith, rules}
-use Rattle.std.proofs.lemmas.Str.Pattern.{strip_prefix_char}
+use Rattle.json_value.proofs.Common.{◌≡◌, ◌≢◌, None, sym, ◌∙◌, arith, rules, strip_prefix_char, value_at}
 use Rattle.json_value.proofs.Changing.{path_steps}
 use Rattle.json_value.proofs.Placed.{put_at_other, put_at_there}
 use Rattle.json_value.proofs.value.Value.set_at.Goals as goal
-use Rattle.json_value.specs.Pointer.{value_at}
 
 pub returns : goal.returns
 returns c =

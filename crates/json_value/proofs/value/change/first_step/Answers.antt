@@ -1,5 +1,4 @@
-use Rattle.std.proofs.Common.{arith}
-use Rattle.std.proofs.lemmas.Str.Pattern.{split_parts}
+use Rattle.json_value.proofs.Common.{arith, split_parts}
 use Rattle.json_value.proofs.Pointer.{steps-more, steps-last}
 use Rattle.json_value.proofs.value.change.first_step.Goals as goal
 

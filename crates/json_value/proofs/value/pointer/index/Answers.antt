@@ -1,4 +1,4 @@
-use Rattle.std.proofs.Common.{inl, inr, sym, ◌∙◌, true≢false, arith}
+use Rattle.json_value.proofs.Common.{inl, inr, sym, ◌∙◌, true≢false, arith}
 use Rattle.json_value.proofs.Pointer.{index_of-plus, index_of-zero, index_of-parsed}
 use Rattle.json_value.proofs.value.pointer.index.Goals as goal
 use Rattle.json_value.proofs.value.pointer.index.Goals.{then-starts_with-via-then-starts_with, then-starts_with-via-else-starts_with+then-step-gt1}

@@ -1,5 +1,4 @@
-use Rattle.std.proofs.Common.{sym, ◌∙◌, arith, true≢false}
-use Rattle.std.proofs.lemmas.Str.Pattern.{contains_char}
+use Rattle.json_value.proofs.Common.{sym, ◌∙◌, arith, true≢false, contains_char}
 use Rattle.json_value.proofs.Pointer.{name_of-plain}
 use Rattle.json_value.proofs.value.pointer.member_place.Goals as goal
 

@@ -1,9 +1,6 @@
-use Rattle.std.proofs.Common.{◌≡◌, ◌+◌, length, option_map, option_and_then}
-use Rattle.std.specs.Map.{keys_of}
-use Rattle.halfbrown.specs.Iter.{pairs_left}
+use Rattle.json_value.proofs.Common.{◌≡◌, ◌+◌, length, option_and_then, keys_of, pairs_left, is_named, name_of, member_place}
+use Rattle.std.proofs.Common.{option_map}
 use Rattle.halfbrown.specs.Pairs.{index_of as first_index}
-use Rattle.json_value.specs.Members.{is_named}
-use Rattle.json_value.specs.Pointer.{name_of, member_place}
 use Rattle.json_value.proofs.value.pointer.member_place.Given as goal
 
 abbrev pub invariant-loop-name : goal.invariant-loop-name

@@ -1,5 +1,5 @@
-use Rattle.std.proofs.Common.{true≢false, sym, ◌∙◌, arith, length, length-drop, eqb-true, eq-eqb, ap, Some, refl}
-use Rattle.std.proofs.lemmas.List.{drop_all, nil_from_length}
+use Rattle.json_value.proofs.Common.{true≢false, sym, ◌∙◌, arith, length, length-drop, eqb-true, eq-eqb, ap, Some, refl}
+use Rattle.json_value.proofs.Common.{drop_all, nil_from_length}
 use Rattle.json_value.proofs.Pointer.{name_of-empty}
 use Rattle.json_value.proofs.value.pointer.stands_for.Goals as goal
 

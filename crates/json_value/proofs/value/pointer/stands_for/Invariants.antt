@@ -1,5 +1,4 @@
-use Rattle.std.proofs.Common.{◌≡◌, ◌↔◌, Some, drop}
-use Rattle.json_value.specs.Pointer.{name_of}
+use Rattle.json_value.proofs.Common.{◌≡◌, ◌↔◌, Some, drop, name_of}
 use Rattle.json_value.proofs.value.pointer.stands_for.Given as goal
 
 abbrev pub invariant-loop-byte : goal.invariant-loop-byte

@@ -1,16 +1,11 @@
-use Rattle.std.proofs.Common.{◌≡◌, ◌+◌, [], ◌∷◌, ◌++◌, map, take, sym, ap, ◌∙◌, arith, rules}
-use Rattle.std.proofs.lemmas.List.{take_all, take_more}
-use Rattle.std.specs.Str.{bytes_eq}
-use Rattle.std.specs.String.{string_bytes, string_eq}
-use Rattle.halfbrown.specs.Collect.{collected}
-use Rattle.halfbrown.specs.Pairs.{put}
+use Rattle.json_value.proofs.Common.{◌≡◌, ◌+◌, [], ◌∷◌, ◌++◌, map, take, sym, ap, ◌∙◌, arith, rules, take_all, take_more}
+use Rattle.json_value.proofs.Common.{bytes_eq, string_bytes, string_eq, collected, put, value_view, members_view, items_of}
+use Rattle.json_value.proofs.Common.{merged, merged_values, array, object}
 use Rattle.json.proofs.Trees.{view-Array, view-Object}
-use Rattle.json.specs.Value.{value_view, members_view, items_of}
 use Rattle.json_value.proofs.Reading.{merged_view, seen, seen_put, values_push, put_all_push, items_merged}
 use Rattle.json_value.proofs.Writing.{json_of-List, json_of-Object}
 use Rattle.json_value.proofs.value.read.+owned.Goals as goal
-use Rattle.json_value.specs.Json.{members_of, merged, merged_values}
-use Rattle.json.specs.Json.{array, object}
+use Rattle.json_value.specs.Json.{members_of}
 
 pub loop-name-preserved : goal.loop-name-preserved
 loop-name-preserved t c =
