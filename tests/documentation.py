@@ -5,7 +5,7 @@
   leads out of them. A path in backticks leads to a file or a folder, from anywhere in the tree: `map/find.rt` is in
   crates/halfbrown/src. A name in backticks such as `counting::hash_one` is that of an item in a module, of a crate or of std.
 - The folders of crates that users copy (COPIED) have the licences of the top, and a page with the line of crates.txt.
-- README's first example stands in half_examples, where it is proved with its clause. halfmap, the program HALFMAP, answers its
+- README's first example stands in half_callers, where it is proved with its clause. halfmap, the program HALFMAP, answers its
   lines as the page says.
 - The imports of CALLING, USING and PROOFS stand in the crates, and the lemmas in their modules. Fenced code stands in callers,
   which are proved, and other code there or in examples. The caller that CALLING begins with compiles with its imports.
@@ -78,7 +78,7 @@ def named(page, tree):
 
 
 def readme(page):
-    proved = re.search(r"^ghost use.*?^}\n", *texts("half_examples/src/first_example.rt"), re.M | re.S)[0]
+    proved = re.search(r"^ghost use.*?^}\n", *texts("half_callers/src/first_example.rt"), re.M | re.S)[0]
     shown = [code for kind, code in FENCED.findall(page) if kind == "rust"]  # It is plain, and its clause is told below.
     contract = re.compile(r"^ghost use .*\n\n?|^    (ensures .*)\n", re.M)
     told = all(f"`{clause}`" in page for clause in contract.findall(proved) if clause)
