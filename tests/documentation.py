@@ -73,8 +73,8 @@ def named(page, tree):
 
 
 def readme(page):
-    """The first example, which is proved in half_examples with its clause, and what halfmap answers."""
-    proved = re.search(r"^ghost use.*?^}\n", *texts("half_examples/src/first_example.rt"), re.M | re.S)[0]
+    """The first example, which is proved in half_callers with its clause, and what halfmap answers."""
+    proved = re.search(r"^ghost use.*?^}\n", *texts("half_callers/src/first_example.rt"), re.M | re.S)[0]
     shown = [code for kind, code in FENCED.findall(page) if kind == "rust"]  # It is plain, and its clause is told below.
     contract = re.compile(r"^ghost use .*\n\n?|^    (ensures .*)\n", re.M)
     told = all(f"`{clause}`" in page for clause in contract.findall(proved) if clause)

@@ -38,6 +38,7 @@ pub fn set_at<K: Eq + Hash, S: BuildHasher, L: Limit>(
 }
 
 /// Sets the value of a key, where it is held, by its index.
+#[tactic(auto, using(halfbrown::proofs::callers::Pairs::keys_set))]
 pub fn set_by_index<K: Eq + Hash, S: BuildHasher, L: Limit>(
     map: &mut LimitedHashMap<K, u64, S, L>,
     key: &K,

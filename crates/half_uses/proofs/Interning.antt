@@ -1,15 +1,16 @@
 -- Texts by number: the texts of a map's keys, and what one text more makes of their numbers.
-use Rattle.std.proofs.Common.{◌≡◌, ℕ, suc, Bool, true, false, cond, List, [], ◌∷◌, ◌++◌, length, map, slice_get, get_or, Option, None, Some}
+use Rattle.std.proofs.Common.{◌≡◌, ℕ, suc, Bool, true, false, cond, List, [], ◌∷◌, ◌++◌, length, map, slice_get, Option, None, Some, arith}
 use Rattle.std.proofs.Common.{is_some, bytes_eq, string_bytes, String, IfSome, refl, sym, ap, ◌∙◌}
+use Rattle.std.proofs.lemmas.Grind.{common_steps}
 use Rattle.std.proofs.lemmas.List.{map_push}
-use Rattle.std.proofs.lemmas.Option.{slice_get-get_or, slice_get-map}
+use Rattle.std.proofs.lemmas.Option.{slice_get-map}
 use Rattle.std.specs.Cmp.Lexicographic.{bytes_decides, nat_list_eq_equiv}
 use Rattle.std.specs.List.{IsDistinct}
 use Rattle.std.specs.Map.{keys_of}
 use Rattle.std.specs.Option.{option_map}
 use Rattle.std.specs.String.{string_eq, string_eq_equiv}
 use Rattle.halfbrown.specs.Pairs.{index_of, holds, put}
-use Rattle.halfbrown.proofs.lemmas.pairs.Indices.{first_of_index, first_within, first_passes, absent_of_index, index_of_pair}
+use Rattle.halfbrown.proofs.lemmas.pairs.Indices.{absent_of_index, index_of_pair}
 use Rattle.halfbrown.specs.Lookup.{KeyMissing}
 use Rattle.half_uses.specs.Interner.{number_of, with_text}
 
@@ -19,41 +20,25 @@ index_of-map : {X Y : Type 0} (f : X → Y) (test : Y → Bool) (xs : List X) �
 index_of-map f test [] = refl
 index_of-map f test (x ∷ xs) = ap (λ place. cond (test (f x)) (Some 0) (option_map suc place)) (index_of-map f test xs)
 
-kept_past : (b : Bool) (old new : Option ℕ) (i : ℕ) → ((j : ℕ) → old ≡ Some j → new ≡ Some j)
-    → cond b (Some 0) (option_map suc old) ≡ Some i → cond b (Some 0) (option_map suc new) ≡ Some i
-kept_past true old new i kept is = is
-kept_past false None new i kept is = absurd (cc)
-kept_past false (Some j) new i kept is = ap (option_map suc) (kept j refl) ∙ is
-
-last_past : (b : Bool) (old new : Option ℕ) (n : ℕ) → (old ≡ None → new ≡ Some n)
-    → cond b (Some 0) (option_map suc old) ≡ None → cond b (Some 0) (option_map suc new) ≡ Some (suc n)
-last_past true old new n last absent = absurd (cc)
-last_past false None new n last absent = ap (option_map suc) (last refl)
-last_past false (Some j) new n last absent = absurd (cc)
-
 module _ {X : Type 0} (test : X → Bool) where
   index_of_kept : (xs more : List X) (i : ℕ) → index_of test xs ≡ Some i → index_of test (xs ++ more) ≡ Some i
   index_of_kept [] more i is = absurd (cc)
-  index_of_kept (x ∷ xs) more i is = kept_past (test x) (index_of test xs) (index_of test (xs ++ more)) i (index_of_kept xs more) is
+  index_of_kept (x ∷ xs) more i is = grind (arith, common_steps, index_of_kept xs more)
 
   index_of_last : (xs : List X) (x : X) → index_of test xs ≡ None → test x ≡ true → index_of test (xs ++ x ∷ []) ≡ Some (length xs)
-  index_of_last [] x absent passes = ap (λ b. cond b (Some 0) None) passes
-  index_of_last (y ∷ xs) x absent passes =
-      last_past (test y) (index_of test xs) (index_of test (xs ++ x ∷ [])) (length xs) (λ none. index_of_last xs x none passes) absent
+  index_of_last [] x absent passes = grind (arith, common_steps)
+  index_of_last (y ∷ xs) x absent passes = grind (arith, common_steps, index_of_last xs x)
 
 -- ---- texts
 
 -- the text of a number is the one that has the number
 pub text_of_number : (texts : List (List ℕ)) (text : List ℕ) (i : ℕ) → number_of texts text ≡ Some i → slice_get texts i ≡ Some text
-text_of_number texts text i is =
-    let first = first_of_index (bytes_eq text) texts i is in
-    slice_get-get_or texts i [] (first_within (bytes_eq text) texts i first)
-    ∙ ap Some (sym ((bytes_decides text (get_or texts i [])).0 (first_passes (bytes_eq text) texts i [] first)))
+text_of_number [] text i is = absurd (cc)
+text_of_number (t ∷ texts) text i is = grind (arith, common_steps, text_of_number texts text, (bytes_decides text t).0)
 
 pub text_where_found : (texts : List (List ℕ)) (text : List ℕ) (found : Option ℕ) → found ≡ number_of texts text
     → IfSome found (λ i. slice_get texts i ≡ Some text)
-text_where_found texts text None is = tt
-text_where_found texts text (Some i) is = text_of_number texts text i (sym is)
+text_where_found texts text found is = grind (arith, common_steps, text_of_number texts text)
 
 module _ (texts : List (List ℕ)) (text : List ℕ) where
   module _ (absent : number_of texts text ≡ None) where

@@ -1,10 +1,12 @@
 -- What a bounded cache keeps, and what a look-up finds in it.
-use Rattle.std.proofs.Common.{◌≡◌, ℕ, ◌+◌, ◌-◌, ◌<◌, ◌≤◌, Bool, true, false, List, [], ◌∷◌, ◌++◌, drop, length, None, Some, is_some, refl, ap, ◌∙◌, arith}
+use Rattle.std.proofs.Common.{◌≡◌, ℕ, ◌+◌, ◌-◌, ◌<◌, ◌≤◌, Bool, true, false, List, [], ◌∷◌, ◌++◌, drop, length, None, Some, is_some, sym, ap, ◌∙◌, arith}
 use Rattle.std.proofs.lemmas.Grind.{common_steps}
 use Rattle.std.proofs.lemmas.List.{drop-append-le, length-append}
 use Rattle.std.specs.Cmp.{IsEquivalence}
 use Rattle.std.specs.HashMap.Eq.{lookup_congr}
 use Rattle.std.specs.Map.{lookup, lookup_entry}
+use Rattle.std.specs.Option.{option_map}
+use Rattle.halfbrown.proofs.lemmas.pairs.Indices.{value_of_entry}
 use Rattle.halfbrown.specs.Pairs.{IsQuery, value_of, holds, holds_by}
 use Rattle.halfbrown.specs.Updates.{HasPut, HasRemovedBy}
 use Rattle.half_uses.specs.BoundedCache.{newest, refreshed, making_way}
@@ -22,17 +24,12 @@ newest-push bound xs x some =
 
 module _ {K V : Type 0} (test : K → Bool) where
   -- the key of a found pair passes the test, and the look-up returns the value of the pair
-  pub entry_passes : (ps : List (K × V)) (p : K × V) → lookup_entry test ps ≡ Some p → test p.0 ≡ true
+  entry_passes : (ps : List (K × V)) (p : K × V) → lookup_entry test ps ≡ Some p → test p.0 ≡ true
   entry_passes [] p found = absurd (cc)
   entry_passes (q ∷ ps) p found = grind (arith, common_steps, found, entry_passes ps p)
 
-  pub entry_value : (ps : List (K × V)) (p : K × V) → lookup_entry test ps ≡ Some p → lookup test ps ≡ Some p.1
-  entry_value [] p found = absurd (cc)
-  entry_value (q ∷ ps) p found = grind (arith, common_steps, found, entry_value ps p)
-
-  pub entry_none : (ps : List (K × V)) → lookup_entry test ps ≡ None → lookup test ps ≡ None
-  entry_none [] none = refl
-  entry_none (q ∷ ps) none = grind (arith, common_steps, none, entry_none ps)
+  entry_value : (ps : List (K × V)) (p : K × V) → lookup_entry test ps ≡ Some p → lookup test ps ≡ Some p.1
+  entry_value ps p found = sym (value_of_entry test ps) ∙ ap (option_map (λ q. q.1)) found
 
   -- nothing moves if no key passes
   pub nothing_refreshed : (ps : List (K × V)) → lookup test ps ≡ None → ps ≡ refreshed test ps
@@ -43,27 +40,22 @@ pub way_of_held : {K V : Type 0} (eq : K → K → Bool) (bound : ℕ) (ps : Lis
     → Some p ≡ making_way eq bound ps k
 way_of_held eq bound ps k p found = grind (arith, common_steps, found, entry_value (eq k) ps p found)
 
-module _ {K V : Type 0} {eq : K → K → Bool} (laws : IsEquivalence eq) (test : K → Bool) (query : IsQuery eq test) where
+module _ {K V : Type 0} {eq : K → K → Bool} {test : K → Bool} {old mid : List (K × V)} {p : K × V}
+    (found : lookup_entry test old ≡ Some p) (removed : HasRemovedBy eq test old mid) where
   -- once a pair is removed, its key is not held
-  pub record IsOut (old new : List (K × V)) (p : K × V) : Type 0 where
-    pub absent : holds eq new p.0 ≡ false
-    pub held : holds_by test old ≡ true
-    pub len : length old ≡ length new + 1
+  pub out_absent : holds eq mid p.0 ≡ false
+  out_absent = ap is_some (removed.equals p.0 (entry_passes test old p found))
 
-  pub out : (old new : List (K × V)) (p : K × V) → lookup_entry test old ≡ Some p → HasRemovedBy eq test old new → IsOut old new p
-  out old new p found removed =
-      let held : holds_by test old ≡ true = ap is_some (entry_value test old p found) in
-      record {
-        absent = ap is_some (removed.equals p.0 (entry_passes test old p found));
-        held = held;
-        len = grind (arith, common_steps, held, removed.len);
-      }
+  pub out_held : holds_by test old ≡ true
+  out_held = ap is_some (entry_value test old p found)
+
+  pub out_len : length old ≡ length mid + 1
+  out_len = grind (arith, common_steps, out_held, removed.len)
 
   -- removing a pair and putting it back leaves what each key has
-  pub put_back : (old mid new : List (K × V)) (p : K × V) → lookup_entry test old ≡ Some p → HasRemovedBy eq test old mid
-      → HasPut eq mid p.0 p.1 new
+  pub put_back : {new : List (K × V)} → IsEquivalence eq → IsQuery eq test → HasPut eq mid p.0 p.1 new
       → (any : K) → value_of eq new any ≡ value_of eq old any
-  put_back old mid new p found removed put any =
+  put_back laws query put any =
       let passes = entry_passes test old p found in
       let value = entry_value test old p found in
       let same : test p.0 ≡ true → lookup test old ≡ lookup (eq p.0) old = λ h i. lookup (λ x. query p.0 x h i) old in

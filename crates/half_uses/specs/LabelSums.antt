@@ -2,7 +2,7 @@
 use Rattle.std.proofs.Common.{◌≡◌, ℕ, ◌+◌, ◌%◌, ◌^◌, Bool, true, false, cond, List, [], ◌∷◌, ◌++◌, fold, Option, None, Some, sum_by, refl}
 use Rattle.std.proofs.Common.{ap, arith, string_bytes}
 use Rattle.std.proofs.lemmas.Grind.{common_steps}
-use Rattle.std.proofs.lemmas.List.Sums.{sum_by-append}
+use Rattle.std.proofs.lemmas.List.Sums.{sum_by-cons}
 use Rattle.std.proofs.lemmas.Map.{lookup-remove_entry, lookup-none}
 use Rattle.std.proofs.lemmas.Map.Entries.{none_past_head}
 use Rattle.std.specs.Cmp.{IsEquivalence}
@@ -20,10 +20,6 @@ use Rattle.halfbrown.specs.Equality.{same_pairs, same_pairs-Decides}
 use Rattle.half_uses.specs.Labels.{label_hash, labels_number}
 
 -- ---- a pair that is removed
-
--- the sum over a list is that of its first item and of the others
-sum_by-cons : {X : Type 0} (f : X → ℕ) (x : X) (xs : List X) → sum_by f (x ∷ xs) ≡ f x + sum_by f xs
-sum_by-cons f x xs = omega (arith, sum_by-append f (x ∷ []) xs)
 
 module _ {K V : Type 0} (test : K → Bool) where
   -- a fact of all keys stays true without the pair

@@ -253,6 +253,7 @@ impl<K: Eq + Hash> Sums<K> {
     /// ```
     /// sums.add(labels, 512)?;
     /// ```
+    #[tactic(auto, using(halfbrown::proofs::callers::Values::value_facts))]
     pub fn add(&mut self, key: K, value: u64) -> Result<(), Refusal>
     where
         K: Drop,
@@ -267,29 +268,8 @@ impl<K: Eq + Hash> Sums<K> {
         ensures needs { OnErr result (capacity_for_insert 32 K.eq self.old.by_key key ≢ None) }
         ensures err { OnErr result (self.new.by_key ≡ self.old.by_key) }
     {
-        add_to(&mut self.by_key, key, value)?;
+        *self.by_key.entry(key)?.or_insert(0) += value;
         self.total += value;
         Ok(())
     }
-}
-
-// Adds a value to the sum of its key.
-#[tactic(auto, using(halfbrown::proofs::callers::Values::value_facts))]
-fn add_to<K: Eq + Hash + Drop>(
-    sums: &mut HashMap<K, u64>,
-    key: K,
-    value: u64,
-) -> Result<(), Refusal>
-    requires { sum (values_of sums.old.pairs) + value < 2 ^ 64 }
-    ensures total { OnOk result (sum (values_of sums.new.pairs) ≡ sum (values_of sums.old.pairs) + value) }
-    ensures key { OnOk result (sums.new.pairs ≡ with_more K.eq sums.old.pairs key value) }
-    ensures equals { OnOk result ((same : K) → K.eq key same ≡ true → value_of K.eq sums.new.pairs same
-        ≡ Some (unwrap_or (value_of K.eq sums.old.pairs key) 0 + value)) }
-    ensures others { OnOk result ((other : K) → K.eq key other ≡ false
-        → value_of K.eq sums.new.pairs other ≡ value_of K.eq sums.old.pairs other) }
-    ensures needs { OnErr result (capacity_for_insert 32 K.eq sums.old key ≢ None) }
-    ensures err { OnErr result (sums.new ≡ sums.old) }
-{
-    *sums.entry(key)?.or_insert(0) += value;
-    Ok(())
 }

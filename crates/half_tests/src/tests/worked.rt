@@ -7,8 +7,8 @@ ghost use Rattle.std.specs.Cmp.Rules.{comparing, hashing};
 ghost use Rattle.std.proofs.Common.{rules};
 
 use super::uses::assert_collected;
+use half_callers::conditions::by_index;
 use half_callers::drains::take_first;
-use half_examples::conditions::by_index;
 use halfbrown::{
     DefaultHashBuilder, Entry, HashMap, Limit, LimitedHashMap, RawEntryMut, Refusal, SizedHashMap,
     hashmap,

@@ -1,5 +1,5 @@
 use Rattle.std.proofs.Common.{◌-◌, length, sym, ap, ◌∙◌, arith}
-use Rattle.half_uses.proofs.Recency.{newest_all, out, way_of_held}
+use Rattle.half_uses.proofs.Recency.{newest_all, out_len, way_of_held}
 use Rattle.half_uses.proofs.bounded_cache.BoundedCache.make_way.Goals as goal
 
 pub returns-in-Some-clause-way : goal.returns-in-Some-clause-way
@@ -8,17 +8,15 @@ returns-in-Some-clause-way g c =
 
 pub returns-in-Some-clause-left : goal.returns-in-Some-clause-left
 returns-in-Some-clause-left g c =
-    let out = out g.met.K.Eq.laws (g.K.PartialEq.eq c.args.key.now) (g.met.K.Eq.laws.congr c.args.key.now) _ _ _
-    (sym c.shift_remove_entry.ensures.returned ∙ c.in-Some.is) c.shift_remove_entry.ensures.removed in
+    let len = out_len (sym c.shift_remove_entry.ensures.returned ∙ c.in-Some.is) c.shift_remove_entry.ensures.removed in
     c.shift_remove_entry.ensures.after.pairs
     ∙ sym (newest_all (c.args.self.now.bound - 1) _
-    (omega (arith, out.len, c.args.self.now.within, ap length c.shift_remove_entry.ensures.after.pairs)))
+    (omega (arith, len, c.args.self.now.within, ap length c.shift_remove_entry.ensures.after.pairs)))
 
 pub returns-in-Some-clause-room : goal.returns-in-Some-clause-room
 returns-in-Some-clause-room g c =
-    let out = out g.met.K.Eq.laws (g.K.PartialEq.eq c.args.key.now) (g.met.K.Eq.laws.congr c.args.key.now) _ _ _
-    (sym c.shift_remove_entry.ensures.returned ∙ c.in-Some.is) c.shift_remove_entry.ensures.removed in
-    omega (arith, out.len, c.args.self.now.within)
+    let len = out_len (sym c.shift_remove_entry.ensures.returned ∙ c.in-Some.is) c.shift_remove_entry.ensures.removed in
+    omega (arith, len, c.args.self.now.within)
 
 pub returns-in-None-2-clause-left : goal.returns-in-None-2-clause-left
 returns-in-None-2-clause-left g c =
