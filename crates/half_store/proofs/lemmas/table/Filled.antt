@@ -1,17 +1,18 @@
 -- A table that insertions fill, and what searches for its pairs read.
-use Rattle.half_store.proofs.Common.{◌≡◌, ◌≤◌, length, inr, refl, ◌∙◌, arith, ℕ, ◌-◌, ◌<◌, inl, sym, ap, Bool, List, Some, Option, None, subst, [], ◌∷◌, true}
-use Rattle.half_store.proofs.Common.{set, replicate, cases_lt, length-set, get_or_past, length-replicate, get_or-replicate, sum_by-cons, count_by-le-length}
-use Rattle.half_store.proofs.Common.{nat_lt, false, bucket_is_loaded, reach, filling_reads_in, probe_distance, bucket_after, home, slot_at, HasVacantSlot, ProbeInvariant, stored, IsSlotVacancy}
+use Rattle.half_store.proofs.Common.{◌≡◌, ◌≤◌, length, refl, ◌∙◌, arith, ℕ, ◌-◌, ◌<◌, sym, ap, List, Some, Option, None, subst, [], ◌∷◌}
+use Rattle.half_store.proofs.Common.{set, replicate, cases_lt, length-set, length-replicate, sum_by-cons}
+use Rattle.half_store.proofs.Common.{nat_lt, false, bucket_is_loaded, reach, filling_reads_in, probe_distance, bucket_after, home, slot_at, ProbeInvariant, stored, IsSlotVacancy}
 use Rattle.half_store.proofs.Common.{reads_up_to}
 use Rattle.half_store.specs.Reach.{load}
 use Rattle.std.proofs.lemmas.List.Folds.{sum_by-replicate}
 use Rattle.std.proofs.lemmas.List.Sums.{sum_by-set}
 use Rattle.half_store.proofs.lemmas.table.Circle.{bucket_after-probe_distance, distance_is, after_is, probe_distance-lt, bucket_after-lt}
-use Rattle.half_store.proofs.lemmas.table.Counts.{count_to-le, count_to-all, count_by-count_to, tick}
+use Rattle.half_store.proofs.lemmas.table.Counts.{tick}
 use Rattle.half_store.proofs.lemmas.table.Layout.{ordered-add}
-use Rattle.half_store.proofs.lemmas.table.Probe.{SameCounts, reach_at_vacancy, unloaded_where_vacant}
-use Rattle.half_store.proofs.lemmas.table.Slots.{slot_cases, slot_set, slot_other, full_from, home-lt, first_none, passes_stored, vacancy_for, full_loaded}
+use Rattle.half_store.proofs.lemmas.table.Probe.{SameCounts, some_vacant, reach_at_vacancy, unloaded_where_vacant}
+use Rattle.half_store.proofs.lemmas.table.Slots.{slot_set, slot_other, full_from, home-lt, vacancy_for, full_loaded}
 use Rattle.half_store.proofs.lemmas.table.Sums.{below-zero, below-more, of_slot, slot_reads}
+use Rattle.half_store.proofs.Common.{common_steps}
 
 -- the bucket where an insertion probe for the hash ends
 unfoldable pub stop : ℕ → List ℕ → ℕ → ℕ
@@ -33,22 +34,10 @@ module _ (w : List ℕ) (slots : List (Option ℕ)) (ordered : ProbeInvariant sl
   abbrev m : ℕ
   m = length slots
 
-  pub some_vacant : HasVacantSlot slots
-  some_vacant =
-      elim (first_none slots (λ k. k) m) [
-        | inr (k, l, none, before) ↦ (k, l, none)
-        | inl all ↦
-            let any : ℕ → Bool = λ h. true in
-            let full = count_to-le (λ p. true) (λ p. stored any (slot_at slots p)) m (λ p in_p e. elim (slot_cases (slot_at slots p))
-            [ inl z ↦ absurd (all p in_p z) | inr (h, is) ↦ passes_stored slots any (slot_at slots p) h is refl ]) in
-            let held = count_by-le-length any w in
-            absurd (omega (arith, count_to-all m, counted any, count_by-count_to (stored any) slots None))
-      ]
-
   pub at_stop : (h : ℕ) → IsSlotVacancy slots h (stop m w h)
   unfolding stop
   at_stop h =
-      let v = vacancy_for slots h some_vacant in
+      let v = vacancy_for slots h (some_vacant w slots counted few) in
       let far : reach w m h - 1 ≡ probe_distance m (home m h) v.0 = omega (arith, reach_at_vacancy slots ordered w counted h v.0 v.1) in
       subst (IsSlotVacancy slots h) (sym (ap (bucket_after m (home m h)) far
       ∙ bucket_after-probe_distance m (home m h) (home-lt m h (omega arith)) v.0 v.1.within)) v.1
@@ -71,12 +60,7 @@ module _ (w : List ℕ) (slots : List (Option ℕ)) (ordered : ProbeInvariant sl
       let last : ℕ = bucket_after m b (passed - 1) in
       let short = probe_distance-lt m b in_b (stop m w h) s.within in
       let in_last : last < m = bucket_after-lt m b in_b (passed - 1) (omega arith) in
-      let is = full_loaded slots ordered last passed in_last (λ p in_p near. s.passed p in_p (omega (
-        arith,
-        after_is m b (passed - 1),
-        distance_is m p last in_p,
-        distance_is m b p in_b,
-      ))) some_vacant in
+      let is = full_loaded slots ordered last passed in_last (λ p in_p near. s.passed p in_p (grind (arith, common_steps, after_is, distance_is))) (some_vacant w slots counted few) in
       (is.0, is.1, is.2, rw (counted (λ hash. nat_lt (probe_distance m (home m hash) last) is.0)) is.3)
 
 counted-add : (w : List ℕ) (slots : List (Option ℕ)) (p x : ℕ) → IsSlotVacancy slots x p → SameCounts w slots
@@ -87,11 +71,7 @@ counted-add w slots p x at counted test =
     omega (arith, sum_by-cons (λ y. tick (test y)) x w, counted test)
 
 all_vacant : (m b : ℕ) → slot_at (replicate m None) b ≡ None
-all_vacant m b =
-    elim (cases_lt b m) [
-      | inl l ↦ get_or-replicate m b None None l
-      | inr past ↦ get_or_past (replicate m None) b None (omega (arith, length-replicate {A = Option ℕ} m None))
-    ]
+all_vacant m b = grind (arith, common_steps, cases_lt b m)
 
 module _ (m : ℕ) (w : List ℕ) (t : IsTableOf m w (slots_with m w)) (few : length w < m) (x : ℕ) where
   at : IsSlotVacancy (slots_with m w) x (stop m w x)

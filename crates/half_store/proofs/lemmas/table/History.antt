@@ -27,11 +27,9 @@ module _ (some others : List ℕ) (m : ℕ) (loads : (last size : ℕ) → load 
         | inr z ↦ reach-none some m hash (omega arith) ∙ sym (reach-none others m hash (omega arith))
       ]
 
--- hashes in another order load each stretch as much
-load-permutation : (some others : List ℕ) (m last size : ℕ) → IsPermutation some others → load others m last size ≡ load some m last size
-unfolding load
-load-permutation some others m last size p = sum_by-IsPermutation (λ x. tick (nat_lt (probe_distance m (home m x) last) size)) some others p
-
+-- and that is so if they are in another order
 pub reach-permutation : (some others : List ℕ) (m hash : ℕ) → IsPermutation some others → reach some m hash ≡ reach others m hash
+unfolding load
 reach-permutation some others m hash p =
-    reach-loads some others m (λ last size. load-permutation some others m last size p) hash
+    reach-loads some others m
+    (λ last size. sum_by-IsPermutation (λ x. tick (nat_lt (probe_distance m (home m x) last) size)) some others p) hash

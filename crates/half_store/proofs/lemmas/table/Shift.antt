@@ -10,7 +10,7 @@ use Rattle.std.proofs.lemmas.List.Elements.{All-from_get_or}
 use Rattle.std.proofs.lemmas.List.Sorted.{IsPermutation-append_comm, IsPermutation-remove, IsPermutation-trans}
 use Rattle.half_store.specs.StoreRemoval.{word_after_move, MovesToEnd}
 use Rattle.half_store.proofs.lemmas.table.Buckets.{slots_from-same, within-at}
-use Rattle.half_store.proofs.lemmas.table.Counts.{count_to, count_to-same, count_by-count_to}
+use Rattle.half_store.proofs.lemmas.table.Counts.{count_to-same, count_by-count_to}
 use Rattle.half_store.proofs.lemmas.table.History.{reach-permutation}
 
 module _ (pairs index : ℕ) (within : index < pairs) where
@@ -90,11 +90,9 @@ module _ (hashes : List ℕ) (index : ℕ) (within : index < length hashes) wher
       within = All-from_get_or (λ word. word ≤ length hashes) words' 0 (λ bucket l. subst (λ word. word ≤ length hashes) (sym (m.words bucket))
           (moved_word-le (length hashes) index within _ (within-at (length hashes) words bucket x.each.within)));
       once = λ at l.
-          count_by-count_to (λ word. word == suc at) words' 0
-          ∙ ap (count_to (λ bucket. slice_index words' bucket == suc at)) m.len
-          ∙ count_to-same _ (λ bucket. slice_index words bucket == suc (before (length hashes) index within at)) (length words)
-          (λ bucket in_words. ap (λ word. word == suc at) (m.words bucket)
-          ∙ same_test (length hashes) index within at _ l (within-at (length hashes) words bucket x.each.within))
+          rw (count_by-count_to (λ word. word == suc at) words' 0, m.len)
+          (count_to-same _ (λ bucket. slice_index words bucket == suc (before (length hashes) index within at)) (length words)
+          (λ bucket in_words. rw m.words (same_test (length hashes) index within at _ l (within-at (length hashes) words bucket x.each.within))))
           ∙ sym (count_by-count_to (λ word. word == suc (before (length hashes) index within at)) words 0)
           ∙ x.each.once _ (before-lt (length hashes) index within at l);
     }

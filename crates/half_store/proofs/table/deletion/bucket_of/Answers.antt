@@ -1,6 +1,6 @@
 use Rattle.half_store.proofs.Common.{◌≡◌, length, ◌+◌, ◌∙◌, arith, ℕ, ◌<◌, suc, sym, ap, slice_index, common_steps, probe_distance, home, looked_more}
 use Rattle.half_store.proofs.lemmas.table.Buckets.{word-lt, some_bucket}
-use Rattle.half_store.proofs.lemmas.table.Circle.{distance_same, next_farther, probe_distance-lt}
+use Rattle.half_store.proofs.lemmas.table.Circle.{distance_same, next_farther}
 use Rattle.half_store.proofs.lemmas.table.Layout.{deletion_steps}
 use Rattle.half_store.proofs.lemmas.tally.{looked_more-one}
 use Rattle.half_store.proofs.table.deletion.bucket_of.Given.{Over}
@@ -47,12 +47,7 @@ loop-bucket-preserved g c =
 pub loop-bucket-smaller : goal.loop-bucket-smaller
 loop-bucket-smaller g c =
     let b = some_bucket c.requires.indexed.each c.args.index c.requires.within in
-    omega (
-      arith,
-      one_on g c b.0 b.2,
-      farther g c b.0 b.2,
-      probe_distance-lt (m g c b.0 b.2) (start g c b.0 b.2) (in_start g c b.0 b.2) b.0 b.1,
-    )
+    grind (arith, deletion_steps, one_on g c b.0 b.2, farther g c b.0 b.2, in_start g c b.0 b.2)
 
 pub returns-clause-near : goal.returns-clause-near
 returns-clause-near g c = grind (arith, deletion_steps)

@@ -3,6 +3,7 @@ use Rattle.std.proofs.Common.{below_more}
 use Rattle.half_store.proofs.lemmas.counting.{returned_at}
 use Rattle.half_store.proofs.lemmas.vecmap.Search.{compared_again, in_order}
 use Rattle.half_store.proofs.vecmap.search.first_match.Goals as goal
+use Rattle.half_store.proofs.Common.{common_steps}
 
 pub returns-clause-first : goal.returns-clause-first
 returns-clause-first g c = c.first_match_by_block.ensures.first
@@ -22,9 +23,7 @@ returns-then-compare-clause-first g c = record {
 }
 
 pub returns-then-compare-clause-work : goal.returns-then-compare-clause-work
-returns-then-compare-clause-work g c =
-    in_order (compared_again c.loop-index.index (c.loop-index.index + 1) c.args.tally.now c.loop-index.tally _ refl
-    c.loop-index.invariant.work c.if-compare.ensures.counted) refl (omega (arith, c.loop-index-test.true))
+returns-then-compare-clause-work g c = grind (arith, common_steps)
 
 pub loop-index-preserved : goal.loop-index-preserved
 loop-index-preserved g c = record {
