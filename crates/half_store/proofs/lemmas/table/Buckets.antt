@@ -12,6 +12,7 @@ use borrow.Author.Tests.{eqb-true}
 use Rattle.half_store.specs.Slots.{WithinHashes}
 use Rattle.half_store.proofs.lemmas.table.Counts.{tick, tick_yes, tick_no, count_to, count_to-none, count_by-count_to}
 use Rattle.std.proofs.Math.ListN as lists
+use Rattle.half_store.proofs.Common.{nat_tests}
 
 pub length-slots_from : (hashes words : List ℕ) → length (slots_from hashes words) ≡ length words
 length-slots_from hashes words = length-map words (hash_of_word hashes)
@@ -183,21 +184,12 @@ module _ {last : ℕ} {words : List ℕ} (each : EachOnce (suc last) words) (ind
   pub EachOnce-remove : EachOnce last words°
   EachOnce-remove = record {
     within = within-from last words° (λ q.
-        let most : slice_index words° q ≤ suc last =
-        within-at (suc last) words° q
-        (within-set (suc last) _ bucket 0 (omega arith)
-        (within-set (suc last) words last_bucket (suc index)
-        (omega (arith, within-at (suc last) words bucket each.within)) each.within)) in
+        let most : slice_index words° q ≤ suc last = grind (arith, common_steps, slice_index, within-at (suc last), within-set (suc last)) in
         elim (cases_eq (slice_index words° q) (suc last)) [
           | inr ne ↦ omega arith
           | inl e ↦
               let some = count-some (is_index last) words° q (word-lt words° q (omega arith)) (eq-eqb _ _ e) in
-              absurd (omega (
-                arith,
-                count-remove (is_index last) (not_index last),
-                each.once last (omega arith),
-                tick_yes _ (eq-eqb (suc last) (suc last) refl),
-              ))
+              absurd (grind (arith, common_steps, count-remove (is_index last) (not_index last), each.once last, nat_tests))
         ]);
     once = λ i l. omega (arith, count-remove (is_index i) (not_index i), each.once i (omega arith), other_index i last (omega arith));
   }

@@ -42,12 +42,6 @@ module _ (w : List ℕ) (slots : List (Option ℕ)) (ordered : ProbeInvariant sl
       subst (IsSlotVacancy slots h) (sym (ap (bucket_after m (home m h)) far
       ∙ bucket_after-probe_distance m (home m h) (home-lt m h (omega arith)) v.0 v.1.within)) v.1
 
-  pub stop-reads : (h : ℕ) → reads_up_to m h (stop m w h) ≡ reach w m h
-  stop-reads h = sym (reach_at_vacancy slots ordered w counted h (stop m w h) (at_stop h))
-
-  pub stop-unloaded : (h : ℕ) → bucket_is_loaded w m (stop m w h) ≡ false
-  stop-unloaded h = let s = at_stop h in unloaded_where_vacant slots ordered w counted (stop m w h) s.within s.vacant
-
   -- a probe that reads more than some buckets has passed the last of a stretch that is home to as many hashes as it has buckets
   pub crowd : (h passed : ℕ) → passed < reach w m h
       → (size : ℕ) × (passed ≤ size) × (size < m) × (size ≤ load w m (bucket_after m (home m h) (passed - 1)) size)
@@ -75,12 +69,10 @@ all_vacant m b = grind (arith, common_steps, cases_lt b m)
 
 module _ (m : ℕ) (w : List ℕ) (t : IsTableOf m w (slots_with m w)) (few : length w < m) (x : ℕ) where
   at : IsSlotVacancy (slots_with m w) x (stop m w x)
-  at = subst (λ n. IsSlotVacancy (slots_with m w) x (stop n w x)) t.long
-      (at_stop w (slots_with m w) t.ordered t.counted (subst (λ n. length w < n) (sym t.long) few) x)
+  at = rw t.long at (at_stop w (slots_with m w) t.ordered t.counted (rw t.long few) x)
 
   reads : reads_up_to m x (stop m w x) ≡ reach w m x
-  reads = subst (λ n. reads_up_to n x (stop n w x) ≡ reach w n x) t.long
-      (stop-reads w (slots_with m w) t.ordered t.counted (subst (λ n. length w < n) (sym t.long) few) x)
+  reads = sym (rw t.long at (reach_at_vacancy (slots_with m w) t.ordered w t.counted x (stop m w x) at))
 
 pub table_of : (m : ℕ) (w : List ℕ) → length w ≤ m → IsTableOf m w (slots_with m w)
 table_of m [] few = record {
@@ -102,18 +94,17 @@ module _ (m : ℕ) (w : List ℕ) (h : ℕ) (few : length w < m) where
   made = table_of m w (omega arith)
 
   fewer : length w < length (slots_with m w)
-  fewer = subst (λ n. length w < n) (sym made.long) few
+  fewer = rw made.long few
 
   -- the bucket where a probe ends is not loaded
   pub probe_stops : bucket_is_loaded w m (stop m w h) ≡ false
-  probe_stops = subst (λ n. bucket_is_loaded w n (stop n w h) ≡ false) made.long (stop-unloaded w (slots_with m w) made.ordered made.counted fewer h)
+  probe_stops =
+      let v = at m w made few h in
+      rw made.long at (unloaded_where_vacant (slots_with m w) made.ordered w made.counted (stop m w h) v.within v.vacant)
 
   pub crowd_of_probe : (passed : ℕ) → passed < reach w m h
       → (size : ℕ) × (passed ≤ size) × (size < m) × (size ≤ load w m (bucket_after m (home m h) (passed - 1)) size)
-  crowd_of_probe passed =
-      subst (λ n. passed < reach w n h → (size : ℕ) × (passed ≤ size) × (size < n)
-      × (size ≤ load w n (bucket_after n (home n h) (passed - 1)) size)) made.long
-      (crowd w (slots_with m w) made.ordered made.counted fewer h passed)
+  crowd_of_probe passed = rw made.long at (crowd w (slots_with m w) made.ordered made.counted fewer h passed)
 
 -- the searches for the pairs of that table read what the insertions did
 pub filled : (m : ℕ) (w : List ℕ) → length w ≤ m → slot_reads m (slots_with m w) ≡ filling_reads_in m w

@@ -20,15 +20,6 @@ module _ {hashes words : List ℕ} (x : IsIndexed hashes words) (hash : ℕ) whe
   abbrev slots : List (Option ℕ)
   slots = slots_from hashes words
 
-  -- what holds of every bucket that stores this hash holds of every pair that has it
-  each_index : (P : ℕ → Type 0) → ((p : ℕ) → slot_at slots p ≡ Some hash → P (slice_index words p - 1)) → (index : ℕ)
-      → slice_get hashes index ≡ Some hash → P index
-  each_index P each index is =
-      let within = slice_get_within hashes index hash is in
-      let b = some_bucket x.each index within in
-      let entry : slice_index words b.0 - 1 ≡ index = omega (arith, b.2) in
-      subst P entry (each b.0 (slot_of_word hashes words b.0 index within b.2 ∙ ap Some (get_or_from_slice_get hashes index hash 0 is)))
-
   -- no probe reads more buckets than one past the held pairs
   short : reach hashes (length words) hash ≤ length hashes + 1
   short = grind (arith, common_steps, index-counted, index-vacant, length-slots_from, reach-none, reach_short)
@@ -80,8 +71,12 @@ module _ {hashes words : List ℕ} (x : IsIndexed hashes words) (hash : ℕ) whe
           found = tt;
           at = tt;
           accepted = tt;
-          rejected = each_index (λ index. returns index false)
-              (λ p is. s.refused p is (x.ordered.before p bucket hash is s.probe.inside none));
+          rejected = λ index is.
+              let within = slice_get_within hashes index hash is in
+              let b = some_bucket x.each index within in
+              let entry : slice_index words b.0 - 1 ≡ index = omega (arith, b.2) in
+              let held = slot_of_word hashes words b.0 index within b.2 ∙ ap Some (get_or_from_slice_get hashes index hash 0 is) in
+              subst (λ i. returns i false) entry (s.refused b.0 held (x.ordered.before b.0 bucket hash held s.probe.inside none));
           vacancy = λ buckets. vacancy;
           cost = record {
             missing = same_work new (work_after_miss hashes (length words) hash old) (ap (λ w. w.asked) work ∙ s.asked)

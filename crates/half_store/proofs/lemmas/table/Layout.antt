@@ -16,7 +16,7 @@ use Rattle.half_store.proofs.lemmas.table.Mask.{count-le_half}
 use Rattle.half_store.proofs.lemmas.tally.{looked_more-zero}
 use Rattle.half_store.proofs.lemmas.capacity.{four-le_count, buckets_of-capacity_of}
 use Rattle.half_store.proofs.lemmas.table.Circle.{distance_is, distance_self, distance_same, probe_distance-lt}
-use Rattle.half_store.proofs.lemmas.table.Counts.{count_to, count_to-same, count_by-count_to}
+use Rattle.half_store.proofs.lemmas.table.Counts.{count_to-same, count_by-count_to}
 use Rattle.half_store.proofs.lemmas.table.Deletion.{HasGap-remove, word_within}
 use Rattle.half_store.proofs.lemmas.table.Probe.{SameCounts, reach_past_pair, reach_at_vacancy}
 use Rattle.half_store.proofs.lemmas.table.Slots.{slot_cases, slot_set, slot_other, full_from, full-lt, home-lt}
@@ -49,13 +49,10 @@ module _ {hashes words : List ℕ} (x : IsIndexed hashes words) where
   pub index-counted : SameCounts hashes slots
   index-counted test =
       let passes : ℕ → Bool = λ word. stored test (hash_of_word hashes word) in
-      count_by-count_to test hashes 0
-      ∙ count_to-same (λ i. test (slice_index hashes i)) (λ i. passes (suc i)) (length hashes)
-      (λ i l. ap (stored test) (sym (slice_get-get_or hashes i 0 l)))
+      rw (count_by-count_to test hashes 0, count_by-count_to (stored test) slots None, long)
+      (count_to-same _ (λ i. passes (suc i)) (length hashes) (λ i l. ap (stored test) (sym (slice_get-get_or hashes i 0 l)))
       ∙ sym (count_each passes refl (length hashes) words x.each) ∙ count_by-count_to passes words 0
-      ∙ count_to-same (λ p. passes (slice_index words p)) (λ p. stored test (slot_at slots p)) (length words)
-      (λ p l. ap (stored test) (sym (hash_of_word-at hashes words p)))
-      ∙ ap (count_to (λ p. stored test (slot_at slots p))) (sym long) ∙ sym (count_by-count_to (stored test) slots None)
+      ∙ count_to-same _ _ (length words) (λ p l. ap (stored test) (sym (hash_of_word-at hashes words p))))
 
   -- if there are buckets, one is empty
   pub index-vacant : 0 < length words → HasVacantSlot slots
@@ -229,24 +226,23 @@ module _ {hashes words : List ℕ} (x : IsIndexed hashes words) where
         let far : probe_distance m (home m hash) bucket + probe_distance m bucket v.0 + 1 ≡ reach hashes m hash =
         grind (arith, common_steps, distance_is, reach_at_vacancy slots x.ordered hashes index-counted hash v.0 v.1) in (
           v.0,
-          subst (λ s. IsOtherEmpty s bucket v.0) (sym slots-remove)
+          rw slots-remove
               (omega (arith, length-set slots bucket None, v.1.within), slot_other slots bucket v.0 None apart ∙ v.1.vacant, apart),
-          subst (λ n. probe_distance n (home n hash) bucket + probe_distance n bucket v.0 + 1 ≡ reach hashes n hash) long far,
+          rw long at far,
         )
 
 -- no pair
 pub IsIndexed-empty : (count : ℕ) → IsBucketCount count → IsIndexed [] (replicate count 0)
-IsIndexed-empty count b =
-    let zeros : List ℕ = replicate count 0 in
-    let long : length zeros ≡ count = length-replicate {A = ℕ} count 0 in
-    let zero_at : (q : ℕ) → slice_index zeros q ≡ 0 =
-    λ q. elim (cases_lt q count) [ inl l ↦ get_or-replicate count q 0 0 l | inr past ↦ get_or_past zeros q 0 (omega arith) ] in
-    record {
-      count = subst IsBucketCount (sym long) b;
-      room = omega arith;
-      each = EachOnce-empty count;
-      ordered = record { before = λ q v h is in_v none. absurd (full_from _ h is (slot_of_zero [] zeros q (zero_at q))) };
-    }
+IsIndexed-empty count b = record {
+  count = rw length-replicate b;
+  room = omega arith;
+  each = EachOnce-empty count;
+  ordered = record {
+    before = λ q v h is in_v none.
+        let zero_at : slice_index (replicate count 0) q ≡ 0 = grind (arith, common_steps, cases_lt q count) in
+        absurd (full_from _ h is (slot_of_zero [] (replicate count 0) q zero_at));
+  };
+}
 
 -- equal columns
 pub IsIndexed-as : {hashes hashes' words words' : List ℕ} → hashes' ≡ hashes → words' ≡ words → IsIndexed hashes words
