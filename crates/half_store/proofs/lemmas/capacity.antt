@@ -86,25 +86,22 @@ buckets_of-capacity_of m c =
     let e : m ≡ 4 * q = (quarter m c).1 in
     rw e (omega arith)
 
+-- a bucket count is the least that serves as many pairs as its capacity
+capacity_of-least : (m : ℕ) → IsBucketCount m → IsLeastBucketCount (capacity_of m) m
+capacity_of-least m count = record {
+  count = count;
+  serves = omega arith;
+  least = λ other is serves. elim (cases_lt other m) [
+    | inl below ↦ let next = next_bucket_count-least other m is count below in let more = capacity_of-more other is in absurd (omega arith)
+    | inr ge ↦ ge
+  ];
+}
+
 -- if the buckets are just filled, one pair more needs the next bucket count
 pub buckets_for-grown : (m : ℕ) → IsBucketCount m → least_buckets (suc (capacity_of m)) ≡ next_bucket_count m
-buckets_for-grown m c =
-    let r = capacity_of-more m c in
-    sym (buckets_for-is (suc (capacity_of m)) (next_bucket_count m)
-    record {
-      count = next_bucket_count-count m c;
-      serves = omega arith;
-      least = λ o is s. next_bucket_count-least m o c is (omega arith);
-    })
+unfolding least_buckets
+buckets_for-grown m c = rw (← buckets_for-is (capacity_of m) m (capacity_of-least m c)) (grind (arith, nat_tests))
 
 -- the capacity of a bucket count is one of the series
 pub capacity_for-capacity_of : (m : ℕ) → IsBucketCount m → capacity_of m ≡ least_table_capacity (capacity_of m)
-capacity_for-capacity_of m count =
-    ap capacity_of (buckets_for-is (capacity_of m) m record {
-      count = count;
-      serves = omega arith;
-      least = λ other is serves. elim (cases_lt other m) [
-        | inl below ↦ let next = next_bucket_count-least other m is count below in let more = capacity_of-more other is in absurd (omega arith)
-        | inr ge ↦ ge
-      ];
-    })
+capacity_for-capacity_of m count = ap capacity_of (buckets_for-is (capacity_of m) m (capacity_of-least m count))

@@ -92,10 +92,8 @@ module _ (slots : List (Option ℕ)) (ordered : ProbeInvariant slots) where
   pub passed-all : (hash p : ℕ) → IsSlotVacancy slots hash p
       → passed slots (home (m slots) hash) hash (distance_from_home slots hash p) ≡ count_by (stored (λ held. held == hash)) slots
   passed-all hash p w =
-      count_to-same (passes slots (home (m slots) hash) hash (distance_from_home slots hash p))
-      (λ q. stored (λ held. held == hash) (slot_at slots q)) (m slots) (λ q in_q.
-      grind (arith, common_steps, nat_tests, slot_cases (slot_at slots q), found-before hash q p))
-      ∙ sym (count_by-count_to (stored (λ held. held == hash)) slots None)
+      rw (count_by-count_to (stored (λ held. held == hash)) slots None)
+      (count_to-same _ _ (m slots) (λ q in_q. grind (arith, common_steps, nat_tests, slot_cases (slot_at slots q), found-before hash q p)))
 
   module _ (hashes : List ℕ) (counted : SameCounts hashes slots) where
     pub loaded_where_full : (b : ℕ) → slot_at slots b ≢ None → HasVacantSlot slots → bucket_is_loaded hashes (m slots) b ≡ true
