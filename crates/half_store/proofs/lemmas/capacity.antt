@@ -92,7 +92,8 @@ capacity_of-least m count = record {
   count = count;
   serves = omega arith;
   least = λ other is serves. elim (cases_lt other m) [
-    | inl below ↦ let next = next_bucket_count-least other m is count below in let more = capacity_of-more other is in absurd (omega arith)
+    | inl below ↦
+        absurd (omega (arith, next_bucket_count-least other m is count below, capacity_of-more other is))
     | inr ge ↦ ge
   ];
 }

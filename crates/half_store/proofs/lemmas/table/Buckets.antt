@@ -77,7 +77,8 @@ module _ (number : ℕ) (words : List ℕ) where
 
 pub zero_of_slot : (hashes words : List ℕ) (bucket : ℕ) → WithinHashes hashes words → slot_at (slots_from hashes words) bucket ≡ None
     → slice_index words bucket ≡ 0
-zero_of_slot hashes words bucket w none = grind (arith, common_steps, within-at, slot_of_word hashes words bucket (slice_index words bucket - 1))
+zero_of_slot hashes words bucket w none =
+    grind (arith, common_steps, within-at, slot_of_word hashes words bucket (slice_index words bucket - 1))
 
 -- how a write changes a count
 count-set : (test : ℕ → Bool) (words : List ℕ) (p n : ℕ) → p < length words
@@ -121,7 +122,8 @@ module _ {number : ℕ} {words : List ℕ} (each : EachOnce number words) where
         | inl e ↦ e
         | inr ne ↦
             let once = each.once index (omega (arith, within-at number words p each.within)) in
-            absurd (grind (arith, common_steps, count-set (is_index index) words p 0, count-some (is_index index) (set words p 0) q, word-lt, eq-eqb, not_index))
+            let write = count-set (is_index index) words p 0 (word-lt words p (omega arith)) in
+            absurd (grind (arith, common_steps, count-some (is_index index) (set words p 0) q, word-lt, eq-eqb, not_index))
       ]
 
   -- one entry index more, in an empty bucket
@@ -151,7 +153,8 @@ module _ {number : ℕ} {words : List ℕ} (each : EachOnce number words) where
   EachOnce-move from to in_from in_to apart none = record {
     within = grind (arith, common_steps, slice_index, within-at, within-set);
     once = λ index l.
-        grind (arith, common_steps, count-set (is_index index), each.once index l, length-set, set, slice_index, tick, word_other);
+        let one = each.once index l in
+        grind (arith, common_steps, count-set (is_index index), length-set, set, slice_index, tick, word_other);
   }
 
 -- the bucket of an entry index is emptied, and the last entry index becomes that one
@@ -184,7 +187,8 @@ module _ {last : ℕ} {words : List ℕ} (each : EachOnce (suc last) words) (ind
   pub EachOnce-remove : EachOnce last words°
   EachOnce-remove = record {
     within = within-from last words° (λ q.
-        let most : slice_index words° q ≤ suc last = grind (arith, common_steps, slice_index, within-at (suc last), within-set (suc last)) in
+        let most : slice_index words° q ≤ suc last =
+        grind (arith, common_steps, slice_index, within-at (suc last), within-set (suc last)) in
         elim (cases_eq (slice_index words° q) (suc last)) [
           | inr ne ↦ omega arith
           | inl e ↦

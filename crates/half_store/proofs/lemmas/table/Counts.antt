@@ -39,7 +39,9 @@ below-more zero x f g l none same = absurd (omega arith)
 below-more (suc m) x f g l none same =
     elim (cases_eq x m) [
       | inl e ↦ omega (arith, below-same m f g (λ k l. same k (omega arith) (omega arith)), ap f e, ap g e)
-      | inr ne ↦ omega (arith, below-more m x f g (omega arith) none (λ k l. same k (omega arith)), same m (omega arith) (omega arith))
+      | inr ne ↦
+          let own = same m (omega arith) (omega arith) in
+          omega (arith, below-more m x f g (omega arith) none (λ k l. same k (omega arith)))
     ]
 
 -- all terms but one are 0
@@ -86,7 +88,9 @@ count_to-lt Q R zero x l q r h = absurd (omega arith)
 count_to-lt Q R (suc n) x l q r h =
     elim (cases_eq x n) [
       | inl e ↦ grind (arith, common_steps, count_to-le Q R n (λ p l. h p (omega arith)), ap Q e, ap R e)
-      | inr ne ↦ omega (arith, count_to-lt Q R n x (omega arith) q r (λ p l. h p (omega arith)), one_le (Q n) (R n) (h n (omega arith)))
+      | inr ne ↦
+          let here = one_le (Q n) (R n) (h n (omega arith)) in
+          omega (arith, count_to-lt Q R n x (omega arith) q r (λ p l. h p (omega arith)))
     ]
 
 -- exactly one bucket more passes

@@ -112,7 +112,8 @@ module _ {m : ℕ} {hashes words : List ℕ} {start gap bucket : ℕ} (s : Shift
     home_side : (probe_distance m (home m hash) bucket < probe_distance m gap bucket → Before m hash bucket gap)
         × (probe_distance m gap bucket ≤ probe_distance m (home m hash) bucket
         → probe_distance m (home m hash) gap ≤ probe_distance m (home m hash) bucket)
-    home_side = (λ stays. grind (arith, common_steps, distance_is, in_home), λ moves. grind (arith, common_steps, distance_is, in_home))
+    home_side =
+        (λ stays. grind (arith, common_steps, distance_is, in_home), λ moves. grind (arith, common_steps, distance_is, in_home))
 
     -- the empty bucket is ahead of a full one too
     farther : probe_distance m start bucket < probe_distance m start vacant

@@ -1,5 +1,5 @@
 -- A table that insertions fill, and what searches for its pairs read.
-use Rattle.half_store.proofs.Common.{◌≡◌, ◌≤◌, length, refl, ◌∙◌, arith, ℕ, ◌-◌, ◌<◌, sym, ap, List, Some, Option, None, subst, [], ◌∷◌}
+use Rattle.half_store.proofs.Common.{◌≡◌, ◌≤◌, length, ◌∙◌, arith, ℕ, ◌-◌, ◌<◌, sym, ap, List, Some, Option, None, subst, [], ◌∷◌}
 use Rattle.half_store.proofs.Common.{set, replicate, cases_lt, length-set, length-replicate, sum_by-cons}
 use Rattle.half_store.proofs.Common.{nat_lt, false, bucket_is_loaded, reach, filling_reads_in, probe_distance, bucket_after, home, slot_at, ProbeInvariant, stored, IsSlotVacancy}
 use Rattle.half_store.proofs.Common.{reads_up_to}
@@ -54,15 +54,15 @@ module _ (w : List ℕ) (slots : List (Option ℕ)) (ordered : ProbeInvariant sl
       let last : ℕ = bucket_after m b (passed - 1) in
       let short = probe_distance-lt m b in_b (stop m w h) s.within in
       let in_last : last < m = bucket_after-lt m b in_b (passed - 1) (omega arith) in
-      let is = full_loaded slots ordered last passed in_last (λ p in_p near. s.passed p in_p (grind (arith, common_steps, after_is, distance_is))) (some_vacant w slots counted few) in
+      let is = full_loaded slots ordered last passed in_last
+      (λ p in_p near. s.passed p in_p (grind (arith, common_steps, after_is, distance_is))) (some_vacant w slots counted few) in
       (is.0, is.1, is.2, rw (counted (λ hash. nat_lt (probe_distance m (home m hash) last) is.0)) is.3)
 
 counted-add : (w : List ℕ) (slots : List (Option ℕ)) (p x : ℕ) → IsSlotVacancy slots x p → SameCounts w slots
     → SameCounts (x ∷ w) (set slots p (Some x))
 counted-add w slots p x at counted test =
     let more = sum_by-set (λ o. tick (stored test o)) slots p (Some x) None at.within in
-    let none : tick (stored test (slot_at slots p)) ≡ 0 = rw at.vacant refl in
-    omega (arith, sum_by-cons (λ y. tick (test y)) x w, counted test)
+    grind (arith, common_steps, counted test, sum_by-cons, tick)
 
 all_vacant : (m b : ℕ) → slot_at (replicate m None) b ≡ None
 all_vacant m b = grind (arith, common_steps, cases_lt b m)

@@ -75,8 +75,10 @@ module _ {hashes words : List ℕ} (x : IsIndexed hashes words) (hash : ℕ) whe
               let within = slice_get_within hashes index hash is in
               let b = some_bucket x.each index within in
               let entry : slice_index words b.0 - 1 ≡ index = omega (arith, b.2) in
-              let held = slot_of_word hashes words b.0 index within b.2 ∙ ap Some (get_or_from_slice_get hashes index hash 0 is) in
-              subst (λ i. returns i false) entry (s.refused b.0 held (x.ordered.before b.0 bucket hash held s.probe.inside none));
+              let has = get_or_from_slice_get hashes index hash 0 is in
+              let held = slot_of_word hashes words b.0 index within b.2 ∙ ap Some has in
+              subst (λ i. returns i false) entry
+              (s.refused b.0 held (x.ordered.before b.0 bucket hash held s.probe.inside none));
           vacancy = λ buckets. vacancy;
           cost = record {
             missing = same_work new (work_after_miss hashes (length words) hash old) (ap (λ w. w.asked) work ∙ s.asked)

@@ -110,7 +110,8 @@ module _ {hashes words : List ℕ} (x : IsIndexed hashes words) where
     by_index index l =
         let at = bucket_of-is index l in
         below-one (length words) (bucket_of words index) (term index) at.0
-        (λ p in_p ne. grind (arith, nat_tests, same_bucket x.each p (bucket_of words index) index)) ∙ cond-true _ _ _ (eq-eqb _ _ at.1)
+        (λ p in_p ne. grind (arith, nat_tests, same_bucket x.each p (bucket_of words index) index))
+        ∙ cond-true _ _ _ (eq-eqb _ _ at.1)
 
     by_word : (p word : ℕ) → slice_index words p ≡ word
         → sum_below (length hashes) (λ index. term index p) ≡ of_slot (λ h. f h p) (slot_at (slots_from hashes words) p)

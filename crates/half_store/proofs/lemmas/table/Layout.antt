@@ -85,8 +85,9 @@ module _ {hashes words : List ℕ} (x : IsIndexed hashes words) where
               let home_q = at_home_below apart e in_e none bound q g nearer at_q in
               let i = word_of_slot hashes words p h is in
               let j = word_of_slot hashes words q g at_q in
+              let hash_j = get_or_from_slice_get hashes j.0 g 0 j.2 in
               let homes : home m (slice_index hashes i.0) ≡ home m (slice_index hashes j.0) =
-              ap (home m) (get_or_from_slice_get hashes i.0 h 0 i.2) ∙ sym home_q ∙ ap (home m) (sym (get_or_from_slice_get hashes j.0 g 0 j.2)) in
+              ap (home m) (get_or_from_slice_get hashes i.0 h 0 i.2) ∙ sym home_q ∙ ap (home m) (sym hash_j) in
               elim (cases_lt i.0 j.0) [
                 | inl l ↦ absurd (apart i.0 j.0 0 l (slice_get_within hashes j.0 g j.2) homes)
                 | inr ge ↦ elim (cases_lt j.0 i.0) [
@@ -169,7 +170,9 @@ module _ {hashes words : List ℕ} (x : IsIndexed hashes words) where
     slot-remove : (q : ℕ) → hash_of_word hashes° (slice_index words° q) ≡ hash_of_word hashes (slice_index (set words bucket 0) q)
     slot-remove q =
         elim (cases_eq q bucket) [
-          | inl e ↦ grind (arith, common_steps, remove-at each index bucket last_bucket at at_last, word_set words bucket 0, word-lt words bucket)
+          | inl e ↦
+              let here = remove-at each index bucket last_bucket at at_last in
+              grind (arith, common_steps, word_set words bucket 0, word-lt words bucket)
           | inr nb ↦
               let old : slice_index (set words bucket 0) q ≡ slice_index words q = word_other words bucket q 0 nb in
               elim (cases_eq q last_bucket) [

@@ -37,11 +37,14 @@ full_most hashes slots counted Q full =
     omega (arith, count_by-le-length any hashes, counted any, count_by-count_to (stored any) slots None)
 
 -- so one bucket is empty if there are fewer hashes
-pub some_vacant : (hashes : List ℕ) (slots : List (Option ℕ)) → SameCounts hashes slots → length hashes < length slots → HasVacantSlot slots
+pub some_vacant : (hashes : List ℕ) (slots : List (Option ℕ)) → SameCounts hashes slots
+    → length hashes < length slots → HasVacantSlot slots
 some_vacant hashes slots counted few =
     elim (first_none slots (λ k. k) (length slots)) [
       | inr (k, l, none, before) ↦ (k, l, none)
-      | inl all ↦ absurd (omega (arith, full_most hashes slots counted (λ p. true) (λ p in_p e. all p in_p), below-const (length slots) 1))
+      | inl all ↦
+          let most = full_most hashes slots counted (λ p. true) (λ p in_p e. all p in_p) in
+          absurd (omega (arith, most, below-const (length slots) 1))
     ]
 
 module _ (slots : List (Option ℕ)) where
@@ -80,7 +83,8 @@ module _ (slots : List (Option ℕ)) where
 
   pub passed-le : (start hash d : ℕ) → passed start hash d ≤ count_by (stored (λ held. held == hash)) slots
   passed-le start hash d =
-      rw (count_by-count_to (stored (λ held. held == hash)) slots None) (count_to-le (passes start hash d) _ m (λ q in_q e. (and_parts _ _ e).1))
+      rw (count_by-count_to (stored (λ held. held == hash)) slots None)
+      (count_to-le (passes start hash d) _ m (λ q in_q e. (and_parts _ _ e).1))
 
 module _ (slots : List (Option ℕ)) (ordered : ProbeInvariant slots) where
   -- a pair that a probe comes to lies before where the probe for its hash ends
@@ -93,7 +97,8 @@ module _ (slots : List (Option ℕ)) (ordered : ProbeInvariant slots) where
       → passed slots (home (m slots) hash) hash (distance_from_home slots hash p) ≡ count_by (stored (λ held. held == hash)) slots
   passed-all hash p w =
       rw (count_by-count_to (stored (λ held. held == hash)) slots None)
-      (count_to-same _ _ (m slots) (λ q in_q. grind (arith, common_steps, nat_tests, slot_cases (slot_at slots q), found-before hash q p)))
+      (count_to-same _ _ (m slots)
+      (λ q in_q. grind (arith, common_steps, nat_tests, slot_cases (slot_at slots q), found-before hash q p)))
 
   module _ (hashes : List ℕ) (counted : SameCounts hashes slots) where
     pub loaded_where_full : (b : ℕ) → slot_at slots b ≢ None → HasVacantSlot slots → bucket_is_loaded hashes (m slots) b ≡ true

@@ -10,13 +10,15 @@ module _ (hashes : List ℕ) (m : ℕ) where
       → loaded_within hashes m last most ≡ true
   unfolding loaded_within
   loaded_within-yes last size zero one small full = absurd (omega arith)
-  loaded_within-yes last size (suc most) one small full = grind (arith, nat_tests, cases_eq size (suc most), loaded_within-yes last size most)
+  loaded_within-yes last size (suc most) one small full =
+      grind (arith, nat_tests, cases_eq size (suc most), loaded_within-yes last size most)
 
   pub loaded_within-no : (last most : ℕ) → ((size : ℕ) → 1 ≤ size → size ≤ most → load hashes m last size < size)
       → loaded_within hashes m last most ≡ false
   unfolding loaded_within
   loaded_within-no last zero h = refl
-  loaded_within-no last (suc most) h = grind (arith, nat_tests, h (suc most), loaded_within-no last most (λ size one small. h size one (omega arith)))
+  loaded_within-no last (suc most) h =
+      grind (arith, nat_tests, h (suc most), loaded_within-no last most (λ size one small. h size one (omega arith)))
 
   pub bucket_is_loaded-yes : (last : ℕ) → IsLoaded hashes m last → bucket_is_loaded hashes m last ≡ true
   bucket_is_loaded-yes last (size, one, small, full) = loaded_within-yes last size (m - 1) one (omega arith) full

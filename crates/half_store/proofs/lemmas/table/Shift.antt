@@ -73,12 +73,9 @@ module _ (hashes : List ℕ) (index : ℕ) (within : index < length hashes) wher
 
     -- to remove the last one then reads no more than two unsuccessful probes
     pub reads-moved : (m : ℕ) → removal_reads moved m last ≤ 2 * reach hashes m (slice_index hashes index)
-    reads-moved m = omega (
-      arith,
-      ap (reach moved m) (last-moved last refl),
-      ap (reach moved m) (last-moved (length moved - 1) (omega (arith, length-moved))),
-      reach-permutation hashes moved m (slice_index hashes index) same_elements,
-    )
+    reads-moved m =
+        let there = reach-permutation hashes moved m (slice_index hashes index) same_elements in
+        rw (last-moved last refl, last-moved (length moved - 1) (omega (arith, length-moved))) (omega arith)
 
   module _ {words words' : List ℕ} (x : IsIndexed hashes words) (m : MovesToEnd (length hashes) index words words') where
     slots-moved : slots_from moved words' ≡ slots_from hashes words
@@ -92,7 +89,8 @@ module _ (hashes : List ℕ) (index : ℕ) (within : index < length hashes) wher
       once = λ at l.
           rw (count_by-count_to (λ word. word == suc at) words' 0, m.len)
           (count_to-same _ (λ bucket. slice_index words bucket == suc (before (length hashes) index within at)) (length words)
-          (λ bucket in_words. rw m.words (same_test (length hashes) index within at _ l (within-at (length hashes) words bucket x.each.within))))
+          (λ bucket in_words. rw m.words
+          (same_test (length hashes) index within at _ l (within-at (length hashes) words bucket x.each.within))))
           ∙ sym (count_by-count_to (λ word. word == suc (before (length hashes) index within at)) words 0)
           ∙ x.each.once _ (before-lt (length hashes) index within at l);
     }

@@ -11,7 +11,7 @@ use Rattle.half_store.specs.Slots.{FullBefore}
 use Rattle.half_store.proofs.lemmas.table.Circle.{probe_distance-lt, distance_self, bucket_after-lt, next_farther}
 use Rattle.half_store.proofs.lemmas.table.Circle.{probe_distance-bucket_after, bucket_after-probe_distance, distance_same, down-lt}
 use Rattle.half_store.proofs.lemmas.table.Circle.{probe_distance-down, down-probe_distance, home_in_stretch, nearer_than_home, after_is}
-use Rattle.half_store.proofs.lemmas.table.Counts.{count_to-le, count_to-lt, count_by-count_to, stretch_size}
+use Rattle.half_store.proofs.lemmas.table.Counts.{count_to, count_to-le, count_to-lt, count_by-count_to, stretch_size}
 use Rattle.half_store.proofs.Common.{nat_tests}
 
 pub slot_cases : (o : Option ℕ) → (o ≡ None) ⊎ ((hash : ℕ) × (o ≡ Some hash))
@@ -81,6 +81,9 @@ module _ (slots : List (Option ℕ)) where
   abbrev in_stretch : ℕ → ℕ → ℕ → Bool
   in_stretch b size p = stored (λ hash. nat_lt (probe_distance m (home m hash) b) size) (slot_at slots p)
 
+  slots_load-count_to : (b size : ℕ) → slots_load b size ≡ count_to (in_stretch b size) m
+  slots_load-count_to b size = count_by-count_to (stored (λ hash. nat_lt (probe_distance m (home m hash) b) size)) slots None
+
   -- a stored hash that passes a test
   pub stored_passes : (test : ℕ → Bool) (o : Option ℕ) → stored test o ≡ true → (hash : ℕ) × (o ≡ Some hash) × (test hash ≡ true)
   stored_passes test None e = absurd (false≢true e)
@@ -111,7 +114,7 @@ module _ (slots : List (Option ℕ)) where
                     grind (arith, common_steps, home-lt, home_in_stretch m (home m h) p e b, nat_tests)
               ] in
               let count = count_to-le (λ p. ltb (probe_distance m p b) k) (in_stretch b k) m homes in
-              (k, long, l, omega (arith, stretch_size m b k in_b (omega arith), count_by-count_to (stored (λ hash. nat_lt (probe_distance m (home m hash) b) k)) slots None))
+              (k, long, l, omega (arith, stretch_size m b k in_b (omega arith), slots_load-count_to b k))
         ]
 
     -- no pair passes an empty bucket, so those in its home bucket in a stretch that ends there lie in the rest of it
@@ -124,7 +127,7 @@ module _ (slots : List (Option ℕ)) where
         let out : in_stretch b size b ≡ false = ap (stored (λ hash. nat_lt (probe_distance m (home m hash) b) size)) none in
         let own : ltb (probe_distance m b b) size ≡ true = lt-ltb _ _ (omega (arith, distance_self m b in_b)) in
         let fewer = count_to-lt (in_stretch b size) (λ p. ltb (probe_distance m p b) size) m b in_b out own inside in
-        omega (arith, stretch_size m b size in_b (omega arith), count_by-count_to (stored (λ hash. nat_lt (probe_distance m (home m hash) b) size)) slots None)
+        omega (arith, stretch_size m b size in_b (omega arith), slots_load-count_to b size)
 
 -- a probe for the hash has passed full buckets and is at this one
 pub record Probes (slots : List (Option ℕ)) (hash bucket : ℕ) : Type 0 where

@@ -112,7 +112,8 @@ loop-word-preserved g c =
           let stayed = Shifts-stay i.shifts a next some e (omega (arith, lt, far, i.apart)) in
           record {
             read = c.word_at-word-in-loop-word.ensures.value;
-            apart = rw still (omega (arith, gap_distance stayed, gap_distance i.shifts, i.apart, on, c.if_less-distance.ensures.less lt));
+            apart = rw still
+                (omega (arith, gap_distance stayed, gap_distance i.shifts, i.apart, on, c.if_less-distance.ensures.less lt));
             most = c.set_word.ensures.most ∙ i.most;
             counted = counted;
             shifts = rw (same, still) stayed;

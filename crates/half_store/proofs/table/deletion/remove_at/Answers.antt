@@ -31,7 +31,11 @@ module _ {hs ws : List ℕ} (x : IsIndexed hs ws) (index bucket last_bucket : �
       let v = vacant-remove x index (length hs - 1) bucket last_bucket is_last (at ∙ one) (at_last ∙ sym is_last) in
       let shift = (rw (h, w, one) at told) v.0 v.1 in
       let far = ap (λ n. probe_distance n bucket v.0) (length-set ws last_bucket (suc index)) in
-      record { asked = shift.asked ∙ asked; compared = shift.compared ∙ compared; looked = omega (arith, shift.looked, near, v.2, far) }
+      record {
+        asked = shift.asked ∙ asked;
+        compared = shift.compared ∙ compared;
+        looked = omega (arith, shift.looked, near, v.2, far);
+      }
 
 pub backward_shift-requires-clause-removed : goal.backward_shift-requires-clause-removed
 backward_shift-requires-clause-removed g c =
