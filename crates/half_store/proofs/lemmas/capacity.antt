@@ -35,10 +35,7 @@ pub next_bucket_count-least : (m other : ℕ) → IsBucketCount m → IsBucketCo
 next_bucket_count-least m other (inl e) c h = rw e (four-le_count other c (omega arith))
 next_bucket_count-least m other (inr (k, two, e)) (inl z) h = absurd (omega arith)
 next_bucket_count-least m other (inr (k, two, e)) (inr (j, two_j, f)) h =
-    let p = pow_pos k in
-    let s = next_bucket_count-some m (omega arith) in
-    let d = pow-double k j (omega arith) in
-    omega arith
+    let p = pow_pos k in omega (arith, next_bucket_count-some m (omega arith), pow-double k j (omega arith))
 
 -- if the capacity is just filled, the next bucket count has capacity for one more
 pub capacity_of-more : (m : ℕ) → IsBucketCount m → capacity_of m < capacity_of (next_bucket_count m)
@@ -46,10 +43,6 @@ capacity_of-more m (inl e) = rw e (omega arith)
 capacity_of-more m (inr (k, two, e)) =
     let f = four-le_count m (inr (k, two, e)) (let p = pow_pos k in omega arith) in
     rw (next_bucket_count-some m (omega arith)) (omega arith)
-
--- more capacity, more buckets
-pub capacity_of-below : (a b : ℕ) → capacity_of a < capacity_of b → a < b
-capacity_of-below a b h = omega arith
 
 pub IsLeastBucketCount-more : (n m : ℕ) → IsLeastBucketCount n m → IsLeastBucketCount (suc n) (bucket_count_for_one_more n m)
 IsLeastBucketCount-more n m l =
@@ -63,7 +56,7 @@ IsLeastBucketCount-more n m l =
           rw e record {
             count = next_bucket_count-count m l.count;
             serves = let r = capacity_of-more m l.count in omega arith;
-            least = λ o c s. next_bucket_count-least m o l.count c (capacity_of-below m o (omega arith));
+            least = λ o c s. next_bucket_count-least m o l.count c (omega arith);
           }
     ]
 
@@ -73,15 +66,9 @@ unfolding least_buckets
 buckets_for-least zero = record { count = inl refl; serves = omega arith; least = λ o c s. omega arith }
 buckets_for-least (suc n) = IsLeastBucketCount-more n (least_buckets n) (buckets_for-least n)
 
--- there is only one
-pub IsLeastBucketCount-unique : (n a b : ℕ) → IsLeastBucketCount n a → IsLeastBucketCount n b → a ≡ b
-IsLeastBucketCount-unique n a b x y =
-    let p = x.least b y.count y.serves in
-    let q = y.least a x.count x.serves in
-    omega arith
-
 pub buckets_for-is : (n m : ℕ) → IsLeastBucketCount n m → m ≡ least_buckets n
-buckets_for-is n m l = IsLeastBucketCount-unique n m (least_buckets n) l (buckets_for-least n)
+buckets_for-is n m l =
+    let o = buckets_for-least n in omega (arith, l.least (least_buckets n) o.count o.serves, o.least m l.count l.serves)
 
 -- a bucket count is a multiple of 4
 pub quarter : (m : ℕ) → IsBucketCount m → (q : ℕ) × (m ≡ 4 * q)
@@ -99,25 +86,23 @@ buckets_of-capacity_of m c =
     let e : m ≡ 4 * q = (quarter m c).1 in
     rw e (omega arith)
 
+-- a bucket count is the least that serves as many pairs as its capacity
+capacity_of-least : (m : ℕ) → IsBucketCount m → IsLeastBucketCount (capacity_of m) m
+capacity_of-least m count = record {
+  count = count;
+  serves = omega arith;
+  least = λ other is serves. elim (cases_lt other m) [
+    | inl below ↦
+        absurd (omega (arith, next_bucket_count-least other m is count below, capacity_of-more other is))
+    | inr ge ↦ ge
+  ];
+}
+
 -- if the buckets are just filled, one pair more needs the next bucket count
 pub buckets_for-grown : (m : ℕ) → IsBucketCount m → least_buckets (suc (capacity_of m)) ≡ next_bucket_count m
-buckets_for-grown m c =
-    let r = capacity_of-more m c in
-    sym (buckets_for-is (suc (capacity_of m)) (next_bucket_count m)
-    record {
-      count = next_bucket_count-count m c;
-      serves = omega arith;
-      least = λ o is s. next_bucket_count-least m o c is (capacity_of-below m o (omega arith));
-    })
+unfolding least_buckets
+buckets_for-grown m c = rw (← buckets_for-is (capacity_of m) m (capacity_of-least m c)) (grind (arith, nat_tests))
 
 -- the capacity of a bucket count is one of the series
 pub capacity_for-capacity_of : (m : ℕ) → IsBucketCount m → capacity_of m ≡ least_table_capacity (capacity_of m)
-capacity_for-capacity_of m count =
-    ap capacity_of (buckets_for-is (capacity_of m) m record {
-      count = count;
-      serves = omega arith;
-      least = λ other is serves. elim (cases_lt other m) [
-        | inl below ↦ let next = next_bucket_count-least other m is count below in let more = capacity_of-more other is in absurd (omega arith)
-        | inr ge ↦ ge
-      ];
-    })
+capacity_for-capacity_of m count = ap capacity_of (buckets_for-is (capacity_of m) m (capacity_of-least m count))

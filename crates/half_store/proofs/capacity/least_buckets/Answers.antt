@@ -1,7 +1,6 @@
 use Rattle.half_store.proofs.Common.{◌≡◌, ◌*◌, inr, refl, ◌∙◌, arith, common_steps}
 use Rattle.half_store.specs.Capacity.{next_bucket_count, least_buckets}
 use Rattle.half_store.proofs.lemmas.capacity.{buckets_for-is, four-le_count, next_bucket_count-count, next_bucket_count-some, next_bucket_count-least}
-use Rattle.half_store.proofs.lemmas.capacity.{capacity_of-below}
 use Rattle.half_store.proofs.capacity.least_buckets.Goals as goal
 
 pub returns-then-needed-eq0-clause-value : goal.returns-then-needed-eq0-clause-value
@@ -25,7 +24,7 @@ loop-buckets-preserved c =
       count = rw (← d) (next_bucket_count-count b i.count);
       some = omega arith;
       small = omega arith;
-      least = λ o is s. let m = next_bucket_count-least b o i.count is (capacity_of-below b o (omega arith)) in omega arith;
+      least = λ o is s. let m = next_bucket_count-least b o i.count is (omega arith) in omega arith;
     }
 
 pub returns-clause-value : goal.returns-clause-value

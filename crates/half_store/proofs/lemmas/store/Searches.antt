@@ -2,7 +2,7 @@
 use Rattle.half_store.proofs.Common.{◌≡◌, ◌≤◌, length, refl, ◌∙◌, arith, ℕ, sym, ap, Bool, List, Some, Option, None, subst, length-keys_of}
 use Rattle.half_store.proofs.Common.{slice_get_within, slice_get, ColumnsState, ReturnsAt, vector_of, table_of, TableState, TableSearch}
 use Rattle.half_store.proofs.Common.{Work, capacity_of, buckets_of}
-use Rattle.std.proofs.Common.{Ok, Err, true≢false}
+use Rattle.std.proofs.Common.{Ok, Err}
 use Rattle.std.specs.Map.{keys_of}
 use Rattle.half_store.specs.declared.store.find.Found.{Found}
 use Rattle.half_store.specs.declared.store.find.Vacancy.{Vacancy}
@@ -10,6 +10,7 @@ use Rattle.half_store.specs.declared.vecmap.search.Scan.{Scan}
 use Rattle.half_store.specs.Search.{IsFirstMatch, StoreSearch, IsVectorSearchCost, IsStoreSearchCost}
 use Rattle.half_store.specs.Store.{StoreState, TableFitsColumns}
 use Rattle.half_store.specs.Table.{IsTableSearchCost}
+use Rattle.half_store.proofs.Common.{common_steps}
 
 module _ {K V : Type 0} (columns : ColumnsState K V) {keys : List K} (same : keys ≡ keys_of columns.pairs) where
   -- a key of the columns is the one that was read
@@ -27,51 +28,19 @@ module _ {K V : Type 0} (columns : ColumnsState K V) {keys : List K} (same : key
   -- what a search of a vector costs
   pub vector_cost : {s : StoreState K V} → vector_of columns ≡ s → {hash : ℕ} {scan : Scan} {found : Option ℕ} {old new : Work}
       → IsVectorSearchCost scan found (length keys) old new → IsStoreSearchCost s hash scan found old new
-  vector_cost is {hash} {scan} {found} {old} {new} work =
-      subst (λ (s : StoreState K V). IsStoreSearchCost s hash scan found old new) is
-      (record {
-        vector = λ form. subst (λ n. IsVectorSearchCost scan found n old new) (ap length same ∙ length-keys_of columns.pairs) work;
-        table = λ form. absurd (true≢false form);
-        buckets = λ form. absurd (true≢false form);
-      })
+  vector_cost is work = grind (arith, common_steps, length-keys_of)
 
   module _ {returns : K → Bool → Type 0} {hash : ℕ} {s : StoreState K V} where
     pub vector_accepts : vector_of columns ≡ s → (found : Found) → IsFirstMatch returns keys (Some found.index) → StoreSearch returns s hash (Ok found)
-    vector_accepts is found told =
-        let index = found.index in
-        subst (λ (s : StoreState K V). StoreSearch returns s hash (Ok found)) is (
-          record {
-            within = omega (arith, told.found, ap length same, length-keys_of columns.pairs);
-            accepted = read index told.found.1;
-            first = λ form earlier before. read earlier (told.none_before earlier before);
-            hashed = λ form. absurd (true≢false form);
-          },
-          λ form. absurd (true≢false form),
-        )
+    vector_accepts is found told = grind (arith, common_steps, length-keys_of, read)
 
     pub vector_refuses : vector_of columns ≡ s → {vacancy : Vacancy} → IsFirstMatch returns keys None → StoreSearch returns s hash (Err vacancy)
-    vector_refuses is {vacancy} told =
-        subst (λ (s : StoreState K V). StoreSearch returns s hash (Err vacancy)) is (
-          record {
-            rejected = λ index k at hashed. read index
-                (told.absent index (omega (arith, slice_get_within (keys_of columns.pairs) index k at, ap length same))) k at;
-          },
-          λ some form. absurd (true≢false form),
-        )
+    vector_refuses is told = grind (arith, common_steps, length-keys_of, read, slice_get_within)
 
     module _ {t : TableState} (is : table_of columns t ≡ s) {old new : Work} where
       pub table_accepts : TableFitsColumns columns t → {index bucket : ℕ} → TableSearch (ReturnsAt returns keys) t hash (Ok (index, bucket)) old new
           → StoreSearch returns s hash (Ok (record { index = index; bucket = bucket }))
-      table_accepts kept {index} {bucket} found =
-          subst (λ (s : StoreState K V). StoreSearch returns s hash (Ok (record { index = index; bucket = bucket }))) is (
-            record {
-              within = omega (arith, slice_get_within t.hashes index hash found.found, kept.len);
-              accepted = read index found.accepted;
-              first = λ form. absurd (true≢false (sym form));
-              hashed = λ form k at. found.found;
-            },
-            λ form. found.at,
-          )
+      table_accepts kept found = grind (arith, common_steps, read, slice_get_within)
 
       pub table_refuses : {bucket : ℕ} → TableSearch (ReturnsAt returns keys) t hash (Err bucket) old new
           → StoreSearch returns s hash (Err (record { hash = hash; bucket = bucket }))
@@ -85,6 +54,4 @@ module _ {K V : Type 0} (columns : ColumnsState K V) {keys : List K} (same : key
 pub table_cost : {K V : Type 0} (columns : ColumnsState K V) {t : TableState} {s : StoreState K V} → table_of columns t ≡ s → {hash : ℕ} {scan : Scan}
     {index : Option ℕ} {old new : Work} → IsTableSearchCost t hash index old new → t.buckets ≡ buckets_of (capacity_of t.buckets)
     → IsStoreSearchCost s hash scan index old new
-table_cost columns is {hash} {scan} {index} {old} {new} cost buckets =
-    subst (λ (s : StoreState _ _). IsStoreSearchCost s hash scan index old new) is
-    (record { vector = λ form. absurd (true≢false (sym form)); table = λ form. cost; buckets = λ form. buckets })
+table_cost columns is cost buckets = grind (arith, common_steps)

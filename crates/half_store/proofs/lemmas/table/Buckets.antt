@@ -11,8 +11,8 @@ use Rattle.std.proofs.lemmas.List.Sums.{sum_by-set, get_or-le-sum_by}
 use borrow.Author.Tests.{eqb-true}
 use Rattle.half_store.specs.Slots.{WithinHashes}
 use Rattle.half_store.proofs.lemmas.table.Counts.{tick, tick_yes, tick_no, count_to, count_to-none, count_by-count_to}
-use Rattle.half_store.proofs.lemmas.table.Slots.{some≢none}
 use Rattle.std.proofs.Math.ListN as lists
+use Rattle.half_store.proofs.Common.{nat_tests}
 
 pub length-slots_from : (hashes words : List ℕ) → length (slots_from hashes words) ≡ length words
 length-slots_from hashes words = length-map words (hash_of_word hashes)
@@ -45,7 +45,7 @@ slot_of_zero hashes words bucket word = hash_of_word-at hashes words bucket ∙ 
 
 index_in : (hashes : List ℕ) (word hash : ℕ) → hash_of_word hashes word ≡ Some hash → (index : ℕ) × (word ≡ suc index)
     × (slice_get hashes index ≡ Some hash)
-index_in hashes zero hash e = absurd (some≢none hash (sym e))
+index_in hashes zero hash e = absurd cc
 index_in hashes (suc index) hash e = (index, refl, e)
 
 -- a bucket that has a hash has the word of an entry index with that hash
@@ -62,7 +62,7 @@ word_other words p q n ne = get_or-set_other words p q n 0 ne
 
 -- a full bucket is one of the buckets
 pub word-lt : (words : List ℕ) (p : ℕ) → 0 < slice_index words p → p < length words
-word-lt words p full = elim (cases_lt p (length words)) [ inl l ↦ l | inr past ↦ absurd (omega (arith, get_or_past words p 0 past)) ]
+word-lt words p full = grind (arith, common_steps, get_or_past)
 
 -- no word is greater
 module _ (number : ℕ) (words : List ℕ) where
@@ -78,13 +78,7 @@ module _ (number : ℕ) (words : List ℕ) where
 pub zero_of_slot : (hashes words : List ℕ) (bucket : ℕ) → WithinHashes hashes words → slot_at (slots_from hashes words) bucket ≡ None
     → slice_index words bucket ≡ 0
 zero_of_slot hashes words bucket w none =
-    elim (cases_lt 0 (slice_index words bucket)) [
-      | inr none ↦ omega arith
-      | inl full ↦
-          let index : ℕ = slice_index words bucket - 1 in
-          absurd (some≢none _ (sym
-          (slot_of_word hashes words bucket index (omega (arith, within-at (length hashes) words bucket w)) (omega arith)) ∙ none))
-    ]
+    grind (arith, common_steps, within-at, slot_of_word hashes words bucket (slice_index words bucket - 1))
 
 -- how a write changes a count
 count-set : (test : ℕ → Bool) (words : List ℕ) (p n : ℕ) → p < length words
@@ -127,14 +121,9 @@ module _ {number : ℕ} {words : List ℕ} (each : EachOnce number words) where
       elim (cases_eq p q) [
         | inl e ↦ e
         | inr ne ↦
-            let in_p = word-lt words p (omega arith) in
-            let in_q : q < length (set words p 0) = omega (arith, word-lt words q (omega arith), length-set words p 0) in
-            let passes = eq-eqb (suc index) (suc index) refl in
-            let other = count-some (is_index index) (set words p 0) q in_q
-            (ap (is_index index) (word_other words p q 0 (λ e. ne (sym e)) ∙ at_q) ∙ passes) in
-            let write = count-set (is_index index) words p 0 in_p in
-            let here = tick_yes _ (ap (is_index index) at_p ∙ passes) in
-            absurd (omega (arith, each.once index (omega (arith, within-at number words p each.within)), tick_no _ (not_index index)))
+            let once = each.once index (omega (arith, within-at number words p each.within)) in
+            let write = count-set (is_index index) words p 0 (word-lt words p (omega arith)) in
+            absurd (grind (arith, common_steps, count-some (is_index index) (set words p 0) q, word-lt, eq-eqb, not_index))
       ]
 
   -- one entry index more, in an empty bucket
@@ -164,13 +153,8 @@ module _ {number : ℕ} {words : List ℕ} (each : EachOnce number words) where
   EachOnce-move from to in_from in_to apart none = record {
     within = grind (arith, common_steps, slice_index, within-at, within-set);
     once = λ index l.
-        let word : ℕ = slice_index words from in
-        let there = count-set (is_index index) words to word in_to in
-        let here = count-set (is_index index) (set words to word) from 0 (omega (arith, length-set words to word)) in
-        let free = ap (λ n. tick (is_index index n)) none in
-        let left : tick (is_index index (slice_index (set words to word) from)) ≡ tick (is_index index word) =
-        ap (λ n. tick (is_index index n)) (word_other words to from word apart) in
-        omega (arith, each.once index l);
+        let one = each.once index l in
+        grind (arith, common_steps, count-set (is_index index), length-set, set, slice_index, tick, word_other);
   }
 
 -- the bucket of an entry index is emptied, and the last entry index becomes that one
@@ -180,7 +164,7 @@ module _ {last : ℕ} {words : List ℕ} (each : EachOnce (suc last) words) (ind
   words° = set (set words last_bucket (suc index)) bucket 0
 
   pub length-remove : length words° ≡ length words
-  length-remove = length-set (set words last_bucket (suc index)) bucket 0 ∙ length-set words last_bucket (suc index)
+  length-remove = simp length-set
 
   in_bucket : bucket < length words
   in_bucket = word-lt words bucket (omega arith)
@@ -189,13 +173,13 @@ module _ {last : ℕ} {words : List ℕ} (each : EachOnce (suc last) words) (ind
   in_last = word-lt words last_bucket (omega arith)
 
   pub remove-at : slice_index words° bucket ≡ 0
-  remove-at = word_set (set words last_bucket (suc index)) bucket 0 (omega (arith, length-set words last_bucket (suc index), in_bucket))
+  remove-at = grind (arith, common_steps, in_bucket)
 
   pub remove-last : last_bucket ≢ bucket → slice_index words° last_bucket ≡ suc index
-  remove-last ne = word_other (set words last_bucket (suc index)) bucket last_bucket 0 ne ∙ word_set words last_bucket (suc index) in_last
+  remove-last ne = grind (arith, common_steps, in_last)
 
   pub remove-other : (q : ℕ) → q ≢ bucket → q ≢ last_bucket → slice_index words° q ≡ slice_index words q
-  remove-other q nb nl = word_other (set words last_bucket (suc index)) bucket q 0 nb ∙ word_other words last_bucket q (suc index) nl
+  remove-other q nb nl = grind (arith, common_steps)
 
   count-remove : (test : ℕ → Bool) → test 0 ≡ false → count_by test words° + tick (test (suc last)) ≡ count_by test words
   count-remove test fails = grind (arith, common_steps, count-set, in_bucket, in_last, length-set, set, slice_index, tick, tick_no, word_other, word_set)
@@ -204,20 +188,12 @@ module _ {last : ℕ} {words : List ℕ} (each : EachOnce (suc last) words) (ind
   EachOnce-remove = record {
     within = within-from last words° (λ q.
         let most : slice_index words° q ≤ suc last =
-        within-at (suc last) words° q
-        (within-set (suc last) _ bucket 0 (omega arith)
-        (within-set (suc last) words last_bucket (suc index)
-        (omega (arith, within-at (suc last) words bucket each.within)) each.within)) in
+        grind (arith, common_steps, slice_index, within-at (suc last), within-set (suc last)) in
         elim (cases_eq (slice_index words° q) (suc last)) [
           | inr ne ↦ omega arith
           | inl e ↦
               let some = count-some (is_index last) words° q (word-lt words° q (omega arith)) (eq-eqb _ _ e) in
-              absurd (omega (
-                arith,
-                count-remove (is_index last) (not_index last),
-                each.once last (omega arith),
-                tick_yes _ (eq-eqb (suc last) (suc last) refl),
-              ))
+              absurd (grind (arith, common_steps, count-remove (is_index last) (not_index last), each.once last, nat_tests))
         ]);
     once = λ i l. omega (arith, count-remove (is_index i) (not_index i), each.once i (omega arith), other_index i last (omega arith));
   }

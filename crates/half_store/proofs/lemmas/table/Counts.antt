@@ -1,10 +1,11 @@
 -- Sums over buckets, and counting those that pass a test.
 use Rattle.half_store.proofs.Common.{◌≡◌, ◌≤◌, length, ◌+◌, ◌*◌, [], ◌∷◌, inr, refl, ◌∙◌, arith, ℕ, ◌-◌, ◌<◌, zero, suc, inl, sym, ap, Bool, List, get_or, ◌≢◌, true}
-use Rattle.half_store.proofs.Common.{false, count_by, ◌⊎◌, cond, cases_lt, cases_eq, lt-ltb, le-ltb, common_steps, sum_by-cons, probe_distance}
+use Rattle.half_store.proofs.Common.{false, count_by, ◌⊎◌, cond, cases_eq, common_steps, sum_by-cons, probe_distance}
 use Rattle.std.proofs.Common.{ltb}
 use Rattle.std.proofs.Common.{min, sum_by}
 use Rattle.half_store.specs.Work.{sum_below}
 use Rattle.half_store.proofs.lemmas.table.Circle.{distance_is}
+use Rattle.half_store.proofs.Common.{nat_tests}
 
 -- Sums over the numbers below one.
 pub below-same : (m : ℕ) (f g : ℕ → ℕ) → ((k : ℕ) → k < m → f k ≡ g k) → sum_below m f ≡ sum_below m g
@@ -37,15 +38,10 @@ pub below-more : (m x : ℕ) (f g : ℕ → ℕ) → x < m → f x ≡ 0 → ((k
 below-more zero x f g l none same = absurd (omega arith)
 below-more (suc m) x f g l none same =
     elim (cases_eq x m) [
-      | inl e ↦
-          let rest = below-same m f g (λ k l. same k (omega arith) (omega arith)) in
-          let old = ap f e in
-          let new = ap g e in
-          omega arith
+      | inl e ↦ omega (arith, below-same m f g (λ k l. same k (omega arith) (omega arith)), ap f e, ap g e)
       | inr ne ↦
-          let rest = below-more m x f g (omega arith) none (λ k l. same k (omega arith)) in
           let own = same m (omega arith) (omega arith) in
-          omega arith
+          omega (arith, below-more m x f g (omega arith) none (λ k l. same k (omega arith)))
     ]
 
 -- all terms but one are 0
@@ -72,16 +68,10 @@ tick_no b e = rw e refl
 
 -- how many buckets below n pass
 abbrev pub count_to : (ℕ → Bool) → ℕ → ℕ
-count_to Q zero = 0
-count_to Q (suc n) = tick (Q n) + count_to Q n
-
-count_to-below : (Q : ℕ → Bool) (n : ℕ) → count_to Q n ≡ sum_below n (λ p. tick (Q p))
-count_to-below Q zero = refl
-count_to-below Q (suc n) = ap (λ s. tick (Q n) + s) (count_to-below Q n)
+count_to Q n = sum_below n (λ p. tick (Q p))
 
 pub count_to-same : (Q R : ℕ → Bool) (n : ℕ) → ((p : ℕ) → p < n → Q p ≡ R p) → count_to Q n ≡ count_to R n
-count_to-same Q R zero h = refl
-count_to-same Q R (suc n) h = grind (arith, common_steps, count_to-same Q R n (λ p l. h p (omega arith)))
+count_to-same Q R n h = below-same n (λ p. tick (Q p)) (λ p. tick (R p)) (λ p l. ap tick (h p l))
 
 one_le : (b c : Bool) → (b ≡ true → c ≡ true) → tick b ≤ tick c
 one_le true c h = rw (h refl) (omega arith)
@@ -97,15 +87,10 @@ pub count_to-lt : (Q R : ℕ → Bool) (n x : ℕ) → x < n → Q x ≡ false �
 count_to-lt Q R zero x l q r h = absurd (omega arith)
 count_to-lt Q R (suc n) x l q r h =
     elim (cases_eq x n) [
-      | inl e ↦
-          let rest = count_to-le Q R n (λ p l. h p (omega arith)) in
-          let no = tick_no (Q n) (ap Q (sym e) ∙ q) in
-          let yes = tick_yes (R n) (ap R (sym e) ∙ r) in
-          omega arith
+      | inl e ↦ grind (arith, common_steps, count_to-le Q R n (λ p l. h p (omega arith)), ap Q e, ap R e)
       | inr ne ↦
-          let rest = count_to-lt Q R n x (omega arith) q r (λ p l. h p (omega arith)) in
           let here = one_le (Q n) (R n) (h n (omega arith)) in
-          omega arith
+          omega (arith, count_to-lt Q R n x (omega arith) q r (λ p l. h p (omega arith)))
     ]
 
 -- exactly one bucket more passes
@@ -113,17 +98,17 @@ pub count_to_more : (Q R : ℕ → Bool) (n x : ℕ) → x < n → Q x ≡ false
     → count_to R n ≡ count_to Q n + 1
 count_to_more Q R n x l q r h =
     let more = below-more n x (λ p. tick (Q p)) (λ p. tick (R p)) l (tick_no _ q) (λ p l ne. ap tick (h p l ne)) in
-    omega (arith, count_to-below Q n, count_to-below R n, tick_yes _ r)
+    omega (arith, tick_yes _ r)
 
 pub count_to-none : (Q : ℕ → Bool) (n : ℕ) → ((p : ℕ) → p < n → Q p ≡ false) → count_to Q n ≡ 0
-count_to-none Q n h = count_to-below Q n ∙ below-zero n (λ p. tick (Q p)) (λ p l. tick_no _ (h p l))
+count_to-none Q n h = below-zero n (λ p. tick (Q p)) (λ p l. tick_no _ (h p l))
 
 -- a count over a list, by buckets
 pub count_by-count_to : {X : Type 0} (f : X → Bool) (xs : List X) (d : X) → count_by f xs ≡ count_to (λ p. f (get_or xs p d)) (length xs)
-count_by-count_to f xs d = sum_by-below (λ x. tick (f x)) xs d ∙ sym (count_to-below (λ p. f (get_or xs p d)) (length xs))
+count_by-count_to f xs d = sum_by-below (λ x. tick (f x)) xs d
 
 one_if : (s t : ℕ) → ((s < t) × (tick (ltb s t) ≡ 1)) ⊎ ((t ≤ s) × (tick (ltb s t) ≡ 0))
-one_if s t = elim (cases_lt s t) [ inl h ↦ inl (h, tick_yes _ (lt-ltb s t h)) | inr h ↦ inr (h, tick_no _ (le-ltb s t h)) ]
+one_if s t = grind (arith, nat_tests)
 
 -- the buckets below n that lie in the stretch of t buckets which ends with b
 stretch_part : (m b t n : ℕ) → b < m → t ≤ m → n ≤ m
@@ -144,7 +129,3 @@ ahead_part m b t (suc n) in_b in_t in_n = grind (arith, common_steps, distance_i
 -- there are t of them
 pub ahead_size : (m b t : ℕ) → b < m → t ≤ m → count_to (λ p. ltb (probe_distance m b p) t) m ≡ t
 ahead_size m b t in_b in_t = ahead_part m b t m in_b in_t (omega arith) ∙ omega arith
-
-pub count_to-all : (n : ℕ) → count_to (λ p. true) n ≡ n
-count_to-all zero = refl
-count_to-all (suc n) = omega (arith, count_to-all n)

@@ -113,10 +113,7 @@ module _ {m : ℕ} {hashes words : List ℕ} {start gap bucket : ℕ} (s : Shift
         × (probe_distance m gap bucket ≤ probe_distance m (home m hash) bucket
         → probe_distance m (home m hash) gap ≤ probe_distance m (home m hash) bucket)
     home_side =
-        let a = distance_is m (home m hash) bucket in_home in
-        let b = distance_is m gap bucket s.gap_in in
-        let c = distance_is m (home m hash) gap in_home in
-        (λ stays. omega arith, λ moves. omega arith)
+        (λ stays. grind (arith, common_steps, distance_is, in_home), λ moves. grind (arith, common_steps, distance_is, in_home))
 
     -- the empty bucket is ahead of a full one too
     farther : probe_distance m start bucket < probe_distance m start vacant
@@ -133,23 +130,7 @@ module _ {m : ℕ} {hashes words : List ℕ} {start gap bucket : ℕ} (s : Shift
 
     -- the pair at the bucket stays: its home is after the gap
     pub Shifts-stay : probe_distance m (home m hash) bucket < probe_distance m gap bucket → Shifts m hashes words start gap next
-    Shifts-stay stays = record {
-      each = s.each;
-      size = s.size;
-      start_in = s.start_in;
-      gap_in = s.gap_in;
-      bucket_in = next-lt;
-      behind = omega (arith, one_farther, s.behind);
-      others = s.others;
-      passed = λ q h at_q after close.
-          elim (cases_eq (probe_distance m start q) (probe_distance m start bucket)) [
-            | inr ne ↦ s.passed q h at_q after (omega (arith, one_farther))
-            | inl same ↦
-                let here : q ≡ bucket = distance_same m start s.start_in q bucket (within q h at_q) s.bucket_in same in
-                let hash_is : hash ≡ h = same_Some hash h (sym is ∙ ap (slot_at slots) (sym here) ∙ at_q) in
-                subst (λ k. Before m k q gap) hash_is (subst (λ p. Before m hash p gap) (sym here) (home_side.0 stays))
-          ];
-    }
+    Shifts-stay stays = grind (arith, common_steps, distance_same, home_side, is, next-lt, one_farther, same_Some, within)
 
     pub Ahead-stay : Ahead m hashes words start gap next vacant
     Ahead-stay = record { inside = a.inside; none = a.none; near = omega (arith, one_farther, farther) }
@@ -200,10 +181,8 @@ module _ {m : ℕ} {hashes words : List ℕ} {start gap bucket : ℕ} (s : Shift
               elim (cases_eq q gap) [
                 | inr nq ↦ s.others q w h (sym (other q (λ e. full_from _ h at_q (ap (slot_at slots') e ∙ from)) nq) ∙ at_q) in_w old ng
                 | inl at ↦
-                    let hash_is : hash ≡ h = same_Some hash h (sym to ∙ ap (slot_at slots') (sym at) ∙ at_q) in
                     let before = s.others bucket w hash is in_w old ng in
-                    let ok : Before m hash gap w = omega (arith, home_side.1 moves, before) in
-                    subst (λ k. Before m k q w) hash_is (subst (λ p. Before m hash p w) (sym at) ok)
+                    grind (arith, common_steps, home_side.1 moves, same_Some, to)
               ];
           passed = λ q h at_q after close. absurd (omega (arith, one_farther));
         }

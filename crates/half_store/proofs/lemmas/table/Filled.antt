@@ -1,17 +1,18 @@
 -- A table that insertions fill, and what searches for its pairs read.
-use Rattle.half_store.proofs.Common.{◌≡◌, ◌≤◌, length, inr, refl, ◌∙◌, arith, ℕ, ◌-◌, ◌<◌, inl, sym, ap, Bool, List, Some, Option, None, subst, [], ◌∷◌, true}
-use Rattle.half_store.proofs.Common.{set, replicate, cases_lt, length-set, get_or_past, length-replicate, get_or-replicate, sum_by-cons, count_by-le-length}
-use Rattle.half_store.proofs.Common.{nat_lt, false, bucket_is_loaded, reach, filling_reads_in, probe_distance, bucket_after, home, slot_at, HasVacantSlot, ProbeInvariant, stored, IsSlotVacancy}
+use Rattle.half_store.proofs.Common.{◌≡◌, ◌≤◌, length, ◌∙◌, arith, ℕ, ◌-◌, ◌<◌, sym, ap, List, Some, Option, None, subst, [], ◌∷◌}
+use Rattle.half_store.proofs.Common.{set, replicate, cases_lt, length-set, length-replicate, sum_by-cons}
+use Rattle.half_store.proofs.Common.{nat_lt, false, bucket_is_loaded, reach, filling_reads_in, probe_distance, bucket_after, home, slot_at, ProbeInvariant, stored, IsSlotVacancy}
 use Rattle.half_store.proofs.Common.{reads_up_to}
 use Rattle.half_store.specs.Reach.{load}
 use Rattle.std.proofs.lemmas.List.Folds.{sum_by-replicate}
 use Rattle.std.proofs.lemmas.List.Sums.{sum_by-set}
 use Rattle.half_store.proofs.lemmas.table.Circle.{bucket_after-probe_distance, distance_is, after_is, probe_distance-lt, bucket_after-lt}
-use Rattle.half_store.proofs.lemmas.table.Counts.{count_to-le, count_to-all, count_by-count_to, tick}
+use Rattle.half_store.proofs.lemmas.table.Counts.{tick}
 use Rattle.half_store.proofs.lemmas.table.Layout.{ordered-add}
-use Rattle.half_store.proofs.lemmas.table.Probe.{SameCounts, reach_at_vacancy, unloaded_where_vacant}
-use Rattle.half_store.proofs.lemmas.table.Slots.{slot_cases, slot_set, slot_other, full_from, home-lt, first_none, passes_stored, vacancy_for, full_loaded}
+use Rattle.half_store.proofs.lemmas.table.Probe.{SameCounts, some_vacant, reach_at_vacancy, unloaded_where_vacant}
+use Rattle.half_store.proofs.lemmas.table.Slots.{slot_set, slot_other, full_from, home-lt, vacancy_for, full_loaded}
 use Rattle.half_store.proofs.lemmas.table.Sums.{below-zero, below-more, of_slot, slot_reads}
+use Rattle.half_store.proofs.Common.{common_steps}
 
 -- the bucket where an insertion probe for the hash ends
 unfoldable pub stop : ℕ → List ℕ → ℕ → ℕ
@@ -33,31 +34,13 @@ module _ (w : List ℕ) (slots : List (Option ℕ)) (ordered : ProbeInvariant sl
   abbrev m : ℕ
   m = length slots
 
-  pub some_vacant : HasVacantSlot slots
-  some_vacant =
-      elim (first_none slots (λ k. k) m) [
-        | inr (k, l, none, before) ↦ (k, l, none)
-        | inl all ↦
-            let any : ℕ → Bool = λ h. true in
-            let full = count_to-le (λ p. true) (λ p. stored any (slot_at slots p)) m (λ p in_p e. elim (slot_cases (slot_at slots p))
-            [ inl z ↦ absurd (all p in_p z) | inr (h, is) ↦ passes_stored slots any (slot_at slots p) h is refl ]) in
-            let held = count_by-le-length any w in
-            absurd (omega (arith, count_to-all m, counted any, count_by-count_to (stored any) slots None))
-      ]
-
   pub at_stop : (h : ℕ) → IsSlotVacancy slots h (stop m w h)
   unfolding stop
   at_stop h =
-      let v = vacancy_for slots h some_vacant in
+      let v = vacancy_for slots h (some_vacant w slots counted few) in
       let far : reach w m h - 1 ≡ probe_distance m (home m h) v.0 = omega (arith, reach_at_vacancy slots ordered w counted h v.0 v.1) in
       subst (IsSlotVacancy slots h) (sym (ap (bucket_after m (home m h)) far
       ∙ bucket_after-probe_distance m (home m h) (home-lt m h (omega arith)) v.0 v.1.within)) v.1
-
-  pub stop-reads : (h : ℕ) → reads_up_to m h (stop m w h) ≡ reach w m h
-  stop-reads h = sym (reach_at_vacancy slots ordered w counted h (stop m w h) (at_stop h))
-
-  pub stop-unloaded : (h : ℕ) → bucket_is_loaded w m (stop m w h) ≡ false
-  stop-unloaded h = let s = at_stop h in unloaded_where_vacant slots ordered w counted (stop m w h) s.within s.vacant
 
   -- a probe that reads more than some buckets has passed the last of a stretch that is home to as many hashes as it has buckets
   pub crowd : (h passed : ℕ) → passed < reach w m h
@@ -71,36 +54,25 @@ module _ (w : List ℕ) (slots : List (Option ℕ)) (ordered : ProbeInvariant sl
       let last : ℕ = bucket_after m b (passed - 1) in
       let short = probe_distance-lt m b in_b (stop m w h) s.within in
       let in_last : last < m = bucket_after-lt m b in_b (passed - 1) (omega arith) in
-      let is = full_loaded slots ordered last passed in_last (λ p in_p near. s.passed p in_p (omega (
-        arith,
-        after_is m b (passed - 1),
-        distance_is m p last in_p,
-        distance_is m b p in_b,
-      ))) some_vacant in
+      let is = full_loaded slots ordered last passed in_last
+      (λ p in_p near. s.passed p in_p (grind (arith, common_steps, after_is, distance_is))) (some_vacant w slots counted few) in
       (is.0, is.1, is.2, rw (counted (λ hash. nat_lt (probe_distance m (home m hash) last) is.0)) is.3)
 
 counted-add : (w : List ℕ) (slots : List (Option ℕ)) (p x : ℕ) → IsSlotVacancy slots x p → SameCounts w slots
     → SameCounts (x ∷ w) (set slots p (Some x))
 counted-add w slots p x at counted test =
     let more = sum_by-set (λ o. tick (stored test o)) slots p (Some x) None at.within in
-    let none : tick (stored test (slot_at slots p)) ≡ 0 = rw at.vacant refl in
-    omega (arith, sum_by-cons (λ y. tick (test y)) x w, counted test)
+    grind (arith, common_steps, counted test, sum_by-cons, tick)
 
 all_vacant : (m b : ℕ) → slot_at (replicate m None) b ≡ None
-all_vacant m b =
-    elim (cases_lt b m) [
-      | inl l ↦ get_or-replicate m b None None l
-      | inr past ↦ get_or_past (replicate m None) b None (omega (arith, length-replicate {A = Option ℕ} m None))
-    ]
+all_vacant m b = grind (arith, common_steps, cases_lt b m)
 
 module _ (m : ℕ) (w : List ℕ) (t : IsTableOf m w (slots_with m w)) (few : length w < m) (x : ℕ) where
   at : IsSlotVacancy (slots_with m w) x (stop m w x)
-  at = subst (λ n. IsSlotVacancy (slots_with m w) x (stop n w x)) t.long
-      (at_stop w (slots_with m w) t.ordered t.counted (subst (λ n. length w < n) (sym t.long) few) x)
+  at = rw t.long at (at_stop w (slots_with m w) t.ordered t.counted (rw t.long few) x)
 
   reads : reads_up_to m x (stop m w x) ≡ reach w m x
-  reads = subst (λ n. reads_up_to n x (stop n w x) ≡ reach w n x) t.long
-      (stop-reads w (slots_with m w) t.ordered t.counted (subst (λ n. length w < n) (sym t.long) few) x)
+  reads = sym (rw t.long at (reach_at_vacancy (slots_with m w) t.ordered w t.counted x (stop m w x) at))
 
 pub table_of : (m : ℕ) (w : List ℕ) → length w ≤ m → IsTableOf m w (slots_with m w)
 table_of m [] few = record {
@@ -122,18 +94,17 @@ module _ (m : ℕ) (w : List ℕ) (h : ℕ) (few : length w < m) where
   made = table_of m w (omega arith)
 
   fewer : length w < length (slots_with m w)
-  fewer = subst (λ n. length w < n) (sym made.long) few
+  fewer = rw made.long few
 
   -- the bucket where a probe ends is not loaded
   pub probe_stops : bucket_is_loaded w m (stop m w h) ≡ false
-  probe_stops = subst (λ n. bucket_is_loaded w n (stop n w h) ≡ false) made.long (stop-unloaded w (slots_with m w) made.ordered made.counted fewer h)
+  probe_stops =
+      let v = at m w made few h in
+      rw made.long at (unloaded_where_vacant (slots_with m w) made.ordered w made.counted (stop m w h) v.within v.vacant)
 
   pub crowd_of_probe : (passed : ℕ) → passed < reach w m h
       → (size : ℕ) × (passed ≤ size) × (size < m) × (size ≤ load w m (bucket_after m (home m h) (passed - 1)) size)
-  crowd_of_probe passed =
-      subst (λ n. passed < reach w n h → (size : ℕ) × (passed ≤ size) × (size < n)
-      × (size ≤ load w n (bucket_after n (home n h) (passed - 1)) size)) made.long
-      (crowd w (slots_with m w) made.ordered made.counted fewer h passed)
+  crowd_of_probe passed = rw made.long at (crowd w (slots_with m w) made.ordered made.counted fewer h passed)
 
 -- the searches for the pairs of that table read what the insertions did
 pub filled : (m : ℕ) (w : List ℕ) → length w ≤ m → slot_reads m (slots_with m w) ≡ filling_reads_in m w

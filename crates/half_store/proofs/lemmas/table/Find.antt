@@ -7,7 +7,6 @@ use Rattle.std.specs.Prelude.{Result, Ok, Err}
 use Rattle.half_store.specs.Reach.{HomesApart}
 use Rattle.half_store.specs.Work.{work_after_miss}
 use Rattle.half_store.proofs.lemmas.table.Buckets.{length-slots_from, slot_of_word, slot_of_zero, some_bucket}
-use Rattle.half_store.proofs.lemmas.table.Circle.{distance_self}
 use Rattle.half_store.proofs.lemmas.capacity.{buckets_of-capacity_of, capacity_for-capacity_of}
 use Rattle.half_store.proofs.lemmas.table.Hits.{hit_reads_in-at, hits_add_up}
 use Rattle.half_store.proofs.lemmas.table.Layout.{index-counted, index-vacant, vacancy_reads, at_home, buckets_seen, view_lent, count_seen, IsIndexed-as}
@@ -15,23 +14,11 @@ use Rattle.half_store.proofs.lemmas.table.Slots.{Probes-vacancy}
 use Rattle.half_store.proofs.lemmas.table.Probe.{SearchedTo, Searches-found, Searches-missing, reach_past_pair, reach_short}
 use Rattle.half_store.proofs.lemmas.table.Reach.{reach-none}
 use Rattle.half_store.proofs.lemmas.tally.{same_work}
+use Rattle.half_store.proofs.lemmas.table.Slots.{home_distance}
 
 module _ {hashes words : List ℕ} (x : IsIndexed hashes words) (hash : ℕ) where
   abbrev slots : List (Option ℕ)
   slots = slots_from hashes words
-
-  -- the entry index at a bucket of this hash has this hash
-  pub index_at : (p : ℕ) → slot_at slots p ≡ Some hash → slice_get hashes (slice_index words p - 1) ≡ Some hash
-  index_at p is = grind (arith, common_steps)
-
-  -- what holds of every bucket that stores this hash holds of every pair that has it
-  each_index : (P : ℕ → Type 0) → ((p : ℕ) → slot_at slots p ≡ Some hash → P (slice_index words p - 1)) → (index : ℕ)
-      → slice_get hashes index ≡ Some hash → P index
-  each_index P each index is =
-      let within = slice_get_within hashes index hash is in
-      let b = some_bucket x.each index within in
-      let entry : slice_index words b.0 - 1 ≡ index = omega (arith, b.2) in
-      subst P entry (each b.0 (slot_of_word hashes words b.0 index within b.2 ∙ ap Some (get_or_from_slice_get hashes index hash 0 is)))
 
   -- no probe reads more buckets than one past the held pairs
   short : reach hashes (length words) hash ≤ length hashes + 1
@@ -55,8 +42,8 @@ module _ {hashes words : List ℕ} (x : IsIndexed hashes words) (hash : ℕ) whe
         (reach_past_pair slots x.ordered hashes (index-counted x) hash bucket is vacant) in
         let few = Searches-found s is in
         let same = index-counted x (λ h. h == hash) in
-        let asked = ap (λ w. w.asked) work in
-        let compared = ap (λ w. w.compared) work in
+        let once : HomesApart hashes (length words) → distance_from_home slots hash bucket ≡ 0 =
+        λ apart. home_distance slots hash bucket s.probe.inside (sym (at_home x (rw size apart) vacant bucket hash is)) in
         let looked = ap (λ w. w.looked) work in
         record {
           found = slice_get-get_or hashes index 0 within ∙ ap Some has;
@@ -66,19 +53,7 @@ module _ {hashes words : List ℕ} (x : IsIndexed hashes words) (hash : ℕ) whe
           vacancy = tt;
           cost = record {
             missing = tt;
-            found = record {
-              asked = asked ∙ s.asked;
-              compared_some = omega (arith, s.compared);
-              compared_most = omega arith;
-              looked_some = omega (arith, s.looked);
-              looked_most = omega (arith, s.looked);
-              looked_once = λ apart.
-                  let none : distance_from_home slots hash bucket ≡ 0 =
-                  ap (λ b. probe_distance (length slots) b bucket)
-                  (at_home x (subst (HomesApart hashes) (sym size) apart) vacant bucket hash is)
-                  ∙ distance_self (length slots) bucket s.probe.inside in
-                  omega (arith, s.looked);
-            };
+            found = grind (arith, common_steps, once);
             hit = looked ∙ omega (arith, s.looked, ap (λ m. reads_up_to m hash bucket) size, hit_reads_in-at x index bucket hash word has);
             hits = hits_add_up x;
             short = short;
@@ -96,8 +71,14 @@ module _ {hashes words : List ℕ} (x : IsIndexed hashes words) (hash : ℕ) whe
           found = tt;
           at = tt;
           accepted = tt;
-          rejected = each_index (λ index. returns index false)
-              (λ p is. s.refused p is (x.ordered.before p bucket hash is s.probe.inside none));
+          rejected = λ index is.
+              let within = slice_get_within hashes index hash is in
+              let b = some_bucket x.each index within in
+              let entry : slice_index words b.0 - 1 ≡ index = omega (arith, b.2) in
+              let has = get_or_from_slice_get hashes index hash 0 is in
+              let held = slot_of_word hashes words b.0 index within b.2 ∙ ap Some has in
+              subst (λ i. returns i false) entry
+              (s.refused b.0 held (x.ordered.before b.0 bucket hash held s.probe.inside none));
           vacancy = λ buckets. vacancy;
           cost = record {
             missing = same_work new (work_after_miss hashes (length words) hash old) (ap (λ w. w.asked) work ∙ s.asked)

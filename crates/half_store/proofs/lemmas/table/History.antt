@@ -1,11 +1,12 @@
 -- The order of the held hashes does not matter to a probe, nor does which hashes of a home they are.
-use Rattle.half_store.proofs.Common.{◌≡◌, inr, refl, ◌∙◌, arith, ℕ, ◌-◌, zero, suc, inl, sym, ap, List, nat_lt, cases_lt, reach, probe_distance, bucket_after}
+use Rattle.half_store.proofs.Common.{◌≡◌, refl, arith, ℕ, ◌-◌, zero, suc, List, nat_lt, cases_lt, reach, probe_distance, bucket_after}
 use Rattle.half_store.proofs.Common.{home}
 use Rattle.std.proofs.Common.{IsPermutation}
 use Rattle.std.proofs.lemmas.List.Sorted.{sum_by-IsPermutation}
 use Rattle.half_store.specs.Reach.{load, loaded_within, loaded_run}
 use Rattle.half_store.proofs.lemmas.table.Counts.{tick}
 use Rattle.half_store.proofs.lemmas.table.Reach.{reach-none, reach-some}
+use Rattle.half_store.proofs.Common.{common_steps}
 
 module _ (some others : List ℕ) (m : ℕ) (loads : (last size : ℕ) → load others m last size ≡ load some m last size) where
   loaded_within-loads : (last most : ℕ) → loaded_within some m last most ≡ loaded_within others m last most
@@ -21,17 +22,11 @@ module _ (some others : List ℕ) (m : ℕ) (loads : (last size : ℕ) → load 
 
   -- a probe reads equally many buckets if each stretch is home to equally many hashes
   pub reach-loads : (hash : ℕ) → reach some m hash ≡ reach others m hash
-  reach-loads hash =
-      elim (cases_lt 0 m) [
-        | inl h ↦ reach-some some m hash h ∙ ap suc (loaded_run-loads (m - 1) (home m hash)) ∙ sym (reach-some others m hash h)
-        | inr z ↦ reach-none some m hash (omega arith) ∙ sym (reach-none others m hash (omega arith))
-      ]
+  reach-loads hash = grind (arith, common_steps, cases_lt 0 m, loaded_run-loads, reach-none, reach-some)
 
--- hashes in another order load each stretch as much
-load-permutation : (some others : List ℕ) (m last size : ℕ) → IsPermutation some others → load others m last size ≡ load some m last size
-unfolding load
-load-permutation some others m last size p = sum_by-IsPermutation (λ x. tick (nat_lt (probe_distance m (home m x) last) size)) some others p
-
+-- and that is so if they are in another order
 pub reach-permutation : (some others : List ℕ) (m hash : ℕ) → IsPermutation some others → reach some m hash ≡ reach others m hash
+unfolding load
 reach-permutation some others m hash p =
-    reach-loads some others m (λ last size. load-permutation some others m last size p) hash
+    reach-loads some others m
+    (λ last size. sum_by-IsPermutation (λ x. tick (nat_lt (probe_distance m (home m x) last) size)) some others p) hash

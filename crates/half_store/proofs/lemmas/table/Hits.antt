@@ -1,9 +1,9 @@
 -- What searches read that find their pairs: all together as much as insertions do that fill an empty table.
 use Rattle.half_store.proofs.Common.{◌≡◌, ◌≤◌, length, ◌+◌, inr, refl, ◌∙◌, arith, ℕ, ◌<◌, zero, suc, inl, sym, ap, Bool, List, Some, slice_index, Option, None}
-use Rattle.half_store.proofs.Common.{subst, [], ◌∷◌, true, false, ◌==◌, cond, cases_lt, eq-eqb, ne_eqb, filling_reads_in, probe_distance, home, bucket_is_loaded}
+use Rattle.half_store.proofs.Common.{subst, [], ◌∷◌, false, ◌==◌, cond, cases_lt, eq-eqb, filling_reads_in, probe_distance, home, bucket_is_loaded}
 use Rattle.half_store.proofs.Common.{slots_from, slot_at, HasVacantSlot, ProbeInvariant, state_of_words, IsIndexed, reads_up_to}
 use Rattle.std.proofs.Common.{sum_by}
-use Rattle.std.proofs.lemmas.Bool.{cond-true, cond-false, both_ways, false≢true}
+use Rattle.std.proofs.lemmas.Bool.{cond-true, false≢true}
 use Rattle.std.proofs.lemmas.List.Sums.{fails_before_first, passes_at_first}
 use Rattle.std.specs.List.{position_or_len}
 use borrow.Author.Tests.{eqb-true}
@@ -13,11 +13,13 @@ use Rattle.half_store.specs.Work.{sum_below}
 use Rattle.half_store.proofs.lemmas.capacity.{four-le_count}
 use Rattle.half_store.proofs.lemmas.table.Buckets.{length-slots_from, slot_of_word, slot_of_zero, within-at, some_bucket, same_bucket}
 use Rattle.half_store.proofs.lemmas.table.Circle.{distance_is, probe_distance-lt}
-use Rattle.half_store.proofs.lemmas.table.Filled.{IsTableOf, slots_with, table_of, filled, some_vacant}
+use Rattle.half_store.proofs.lemmas.table.Filled.{IsTableOf, slots_with, table_of, filled}
 use Rattle.half_store.proofs.lemmas.table.Layout.{index-counted}
-use Rattle.half_store.proofs.lemmas.table.Probe.{SameCounts, loaded_where_full, unloaded_where_vacant}
+use Rattle.half_store.proofs.lemmas.table.Probe.{SameCounts, some_vacant, loaded_where_full, unloaded_where_vacant}
 use Rattle.half_store.proofs.lemmas.table.Slots.{slot_cases, full_from, home-lt}
 use Rattle.half_store.proofs.lemmas.table.Sums.{below-same, below-plus, below-swap, below-zero, below-one, of_slot, slot_reads, same_sums, sum_by-below}
+use Rattle.half_store.proofs.Common.{common_steps}
+use Rattle.half_store.proofs.Common.{nat_tests}
 
 -- the distances from bucket v to the homes
 abbrev homes_from : ℕ → ℕ → List ℕ → ℕ
@@ -43,13 +45,7 @@ module _ (slots : List (Option ℕ)) (ordered : ProbeInvariant slots) (hashes : 
       let before = ordered.before p v h is in_v none in
       let in_h = home-lt m h (omega arith) in
       rw (loaded_where_full slots ordered hashes counted p (full_from _ h is) (v, in_v, none))
-      (omega (
-        arith,
-        distance_is m (home m h) p in_h,
-        distance_is m (home m h) v in_h,
-        distance_is m v p in_v,
-        distance_is m v (home m h) in_v,
-      ))
+      (grind (arith, common_steps, distance_is))
 
   spread : slot_reads m slots + homes_from m v hashes ≡ loaded_from m v hashes
   spread =
@@ -65,19 +61,16 @@ module _ {m : ℕ} {hashes : List ℕ} {slots : List (Option ℕ)} (t : IsTableO
   within = subst (λ n. v < n) (sym t.long) in_v
 
   spread_of : slot_at slots v ≡ None → slot_reads m slots + homes_from m v hashes ≡ loaded_from m v hashes
-  spread_of none =
-      subst (λ n. slot_reads n slots + homes_from n v hashes ≡ loaded_from n v hashes) t.long
-      (spread slots t.ordered hashes t.counted v within none)
+  spread_of none = rw (← t.long) (spread slots t.ordered hashes t.counted v within none)
 
   none_unloaded : slot_at slots v ≡ None → bucket_is_loaded hashes m v ≡ false
-  none_unloaded none =
-      subst (λ n. bucket_is_loaded hashes n v ≡ false) t.long (unloaded_where_vacant slots t.ordered hashes t.counted v within none)
+  none_unloaded none = rw (← t.long) (unloaded_where_vacant slots t.ordered hashes t.counted v within none)
 
   unloaded_vacant : HasVacantSlot slots → bucket_is_loaded hashes m v ≡ false → slot_at slots v ≡ None
   unloaded_vacant some is =
       elim (slot_cases (slot_at slots v)) [
         | inl none ↦ none
-        | inr (h, full) ↦ absurd (false≢true (sym is ∙ subst (λ n. bucket_is_loaded hashes n v ≡ true) t.long
+        | inr (h, full) ↦ absurd (false≢true (sym is ∙ rw t.long at
             (loaded_where_full slots t.ordered hashes t.counted v (full_from _ h full) some)))
       ]
 
@@ -85,8 +78,8 @@ module _ {m : ℕ} {hashes : List ℕ} {slots : List (Option ℕ)} (t : IsTableO
 pub same_reads : (m : ℕ) (hashes : List ℕ) (some others : List (Option ℕ)) → IsTableOf m hashes some → IsTableOf m hashes others
     → length hashes < m → slot_reads m some ≡ slot_reads m others
 same_reads m hashes some others s o few =
-    let v = some_vacant hashes some s.ordered s.counted (subst (λ n. length hashes < n) (sym s.long) few) in
-    let u = some_vacant hashes others o.ordered o.counted (subst (λ n. length hashes < n) (sym o.long) few) in
+    let v = some_vacant hashes some s.counted (subst (λ n. length hashes < n) (sym s.long) few) in
+    let u = some_vacant hashes others o.counted (subst (λ n. length hashes < n) (sym o.long) few) in
     let in_v : v.0 < m = subst (λ n. v.0 < n) s.long v.1 in
     let none = unloaded_vacant o v.0 in_v u (none_unloaded s v.0 in_v v.2) in
     omega (arith, spread_of s v.0 in_v v.2, spread_of o v.0 in_v none)
@@ -103,10 +96,7 @@ module _ {hashes words : List ℕ} (x : IsIndexed hashes words) where
       let b = some_bucket x.each index l in
       let test : ℕ → Bool = λ word. word == suc index in
       let near : position_or_len test words ≤ b.0 =
-      elim (cases_lt b.0 (position_or_len test words)) [
-        | inl past ↦ absurd (both_ways _ (fails_before_first test words b.0 0 past) (eq-eqb _ _ b.2))
-        | inr le ↦ le
-      ] in
+      grind (arith, common_steps, fails_before_first test words b.0 0, eq-eqb (slice_index words b.0) (suc index)) in
       let within : position_or_len test words < length words = omega (arith, b.1) in
       (within, eqb-true _ _ (passes_at_first test words 0 within))
 
@@ -120,19 +110,19 @@ module _ {hashes words : List ℕ} (x : IsIndexed hashes words) where
     by_index index l =
         let at = bucket_of-is index l in
         below-one (length words) (bucket_of words index) (term index) at.0
-        (λ p in_p ne. cond-false _ _ _ (ne_eqb _ _ (λ e. ne (same_bucket x.each p (bucket_of words index) index e at.1))))
+        (λ p in_p ne. grind (arith, nat_tests, same_bucket x.each p (bucket_of words index) index))
         ∙ cond-true _ _ _ (eq-eqb _ _ at.1)
 
     by_word : (p word : ℕ) → slice_index words p ≡ word
         → sum_below (length hashes) (λ index. term index p) ≡ of_slot (λ h. f h p) (slot_at (slots_from hashes words) p)
     by_word p zero is =
         below-zero (length hashes) (λ index. term index p)
-        (λ index l. cond-false _ _ _ (ne_eqb (slice_index words p) (suc index) (λ e. omega arith)))
+        (λ index l. grind (arith, nat_tests))
         ∙ sym (ap (of_slot (λ h. f h p)) (slot_of_zero hashes words p is))
     by_word p (suc index) is =
         let within : index < length hashes = omega (arith, within-at (length hashes) words p x.each.within) in
         below-one (length hashes) index (λ i. term i p) within
-        (λ i l ne. cond-false _ _ _ (ne_eqb (slice_index words p) (suc i) (λ e. ne (omega arith))))
+        (λ i l ne. grind (arith, nat_tests))
         ∙ cond-true _ _ _ (eq-eqb _ _ is) ∙ sym (ap (of_slot (λ h. f h p)) (slot_of_word hashes words p index within is))
 
     pub sum_of_pairs : sum_below (length hashes) (λ index. f (slice_index hashes index) (bucket_of words index))

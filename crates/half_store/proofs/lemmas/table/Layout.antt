@@ -16,11 +16,12 @@ use Rattle.half_store.proofs.lemmas.table.Mask.{count-le_half}
 use Rattle.half_store.proofs.lemmas.tally.{looked_more-zero}
 use Rattle.half_store.proofs.lemmas.capacity.{four-le_count, buckets_of-capacity_of}
 use Rattle.half_store.proofs.lemmas.table.Circle.{distance_is, distance_self, distance_same, probe_distance-lt}
-use Rattle.half_store.proofs.lemmas.table.Counts.{count_to, count_to-same, count_to-le, count_to-all, count_by-count_to}
+use Rattle.half_store.proofs.lemmas.table.Counts.{count_to-same, count_by-count_to}
 use Rattle.half_store.proofs.lemmas.table.Deletion.{HasGap-remove, word_within}
 use Rattle.half_store.proofs.lemmas.table.Probe.{SameCounts, reach_past_pair, reach_at_vacancy}
-use Rattle.half_store.proofs.lemmas.table.Slots.{slot_cases, slot_set, slot_other, full_from, full-lt, home-lt, first_none, passes_stored}
+use Rattle.half_store.proofs.lemmas.table.Slots.{slot_cases, slot_set, slot_other, full_from, full-lt, home-lt}
 use Rattle.half_store.proofs.lemmas.table.Slots.{vacancy_for}
+use Rattle.half_store.proofs.lemmas.table.Probe.{some_vacant as empty_bucket}
 
 -- a pair that is added where its probe ended keeps the probe invariant
 pub ordered-add : (slots : List (Option ℕ)) (p h : ℕ) → IsSlotVacancy slots h p → ProbeInvariant slots → ProbeInvariant (set slots p (Some h))
@@ -48,29 +49,17 @@ module _ {hashes words : List ℕ} (x : IsIndexed hashes words) where
   pub index-counted : SameCounts hashes slots
   index-counted test =
       let passes : ℕ → Bool = λ word. stored test (hash_of_word hashes word) in
-      count_by-count_to test hashes 0
-      ∙ count_to-same (λ i. test (slice_index hashes i)) (λ i. passes (suc i)) (length hashes)
-      (λ i l. ap (stored test) (sym (slice_get-get_or hashes i 0 l)))
+      rw (count_by-count_to test hashes 0, count_by-count_to (stored test) slots None, long)
+      (count_to-same _ (λ i. passes (suc i)) (length hashes) (λ i l. ap (stored test) (sym (slice_get-get_or hashes i 0 l)))
       ∙ sym (count_each passes refl (length hashes) words x.each) ∙ count_by-count_to passes words 0
-      ∙ count_to-same (λ p. passes (slice_index words p)) (λ p. stored test (slot_at slots p)) (length words)
-      (λ p l. ap (stored test) (sym (hash_of_word-at hashes words p)))
-      ∙ ap (count_to (λ p. stored test (slot_at slots p))) (sym long) ∙ sym (count_by-count_to (stored test) slots None)
+      ∙ count_to-same _ _ (length words) (λ p l. ap (stored test) (sym (hash_of_word-at hashes words p))))
 
   -- if there are buckets, one is empty
   pub index-vacant : 0 < length words → HasVacantSlot slots
   index-vacant some =
-      elim (first_none slots (λ k. k) (length slots)) [
-        | inr (k, l, none, before) ↦ (k, l, none)
-        | inl all ↦
-            let any : ℕ → Bool = λ h. true in
-            let full = count_to-le (λ p. true) (λ p. stored any (slot_at slots p)) (length slots) (λ p in_p e.
-            elim (slot_cases (slot_at slots p))
-            [ inl z ↦ absurd (all p in_p z) | inr (h, is) ↦ passes_stored slots any (slot_at slots p) h is refl ]) in
-            let held = count_by-le-length any hashes in
-            let four = four-le_count (length words) x.count some in
-            let room = x.room in
-            absurd (omega (arith, long, count_to-all (length slots), index-counted any, count_by-count_to (stored any) slots None))
-      ]
+      let four = four-le_count (length words) x.count some in
+      let room = x.room in
+      empty_bucket hashes slots index-counted (omega (arith, long))
 
   -- a probe that ends at an empty bucket has read what `reach` says
   pub vacancy_reads : (hash p : ℕ) → IsSlotVacancy slots hash p → reach hashes (length words) hash ≡ distance_from_home slots hash p + 1
@@ -96,14 +85,13 @@ module _ {hashes words : List ℕ} (x : IsIndexed hashes words) where
               let home_q = at_home_below apart e in_e none bound q g nearer at_q in
               let i = word_of_slot hashes words p h is in
               let j = word_of_slot hashes words q g at_q in
-              let hash_i = get_or_from_slice_get hashes i.0 h 0 i.2 in
               let hash_j = get_or_from_slice_get hashes j.0 g 0 j.2 in
-              let in_i = slice_get_within hashes i.0 h i.2 in
-              let in_j = slice_get_within hashes j.0 g j.2 in
+              let homes : home m (slice_index hashes i.0) ≡ home m (slice_index hashes j.0) =
+              ap (home m) (get_or_from_slice_get hashes i.0 h 0 i.2) ∙ sym home_q ∙ ap (home m) (sym hash_j) in
               elim (cases_lt i.0 j.0) [
-                | inl l ↦ absurd (apart i.0 j.0 0 l in_j (ap (home m) hash_i ∙ sym home_q ∙ ap (home m) (sym hash_j)))
+                | inl l ↦ absurd (apart i.0 j.0 0 l (slice_get_within hashes j.0 g j.2) homes)
                 | inr ge ↦ elim (cases_lt j.0 i.0) [
-                  | inl l ↦ absurd (apart j.0 i.0 0 l in_i (ap (home m) hash_j ∙ home_q ∙ ap (home m) (sym hash_i)))
+                  | inl l ↦ absurd (apart j.0 i.0 0 l (slice_get_within hashes i.0 h i.2) (sym homes))
                   | inr le ↦ same_bucket x.each q p i.0 (j.1 ∙ omega arith) i.1
                 ]
               ]
@@ -146,13 +134,12 @@ module _ {hashes words : List ℕ} (x : IsIndexed hashes words) where
     pub IsIndexed-add : length hashes < capacity_of (length words) → IsIndexed hashes' words'
     IsIndexed-add few =
         let more : suc (length hashes) ≡ length hashes' = omega (arith, length_push hashes h) in
-        let same : length words ≡ length words' = sym (length-set words p (suc (length hashes))) in
-        let in_p : p < length words = omega (arith, w.within, long) in
         record {
-          count = subst IsBucketCount same x.count;
-          room = subst (λ m. length hashes' ≤ capacity_of m) same (omega arith);
-          each = subst (λ n. EachOnce n words') more (EachOnce-add x.each p in_p (zero_of_slot hashes words p x.each.within w.vacant));
-          ordered = subst ProbeInvariant (sym slots-add) (ordered-add slots p h w x.ordered);
+          count = rw length-set x.count;
+          room = rw length-set (omega arith);
+          each = subst (λ n. EachOnce n words') more
+              (EachOnce-add x.each p (omega (arith, w.within, long)) (zero_of_slot hashes words p x.each.within w.vacant));
+          ordered = rw slots-add (ordered-add slots p h w x.ordered);
         }
 
   -- the pair of this entry index is taken out, and the last pair gets its index
@@ -184,9 +171,8 @@ module _ {hashes words : List ℕ} (x : IsIndexed hashes words) where
     slot-remove q =
         elim (cases_eq q bucket) [
           | inl e ↦
-              ap (λ b. hash_of_word hashes° (slice_index words° b)) e ∙ ap (hash_of_word hashes°) (remove-at each index bucket last_bucket at at_last)
-              ∙ sym (ap (λ b. hash_of_word hashes (slice_index (set words bucket 0) b)) e
-              ∙ ap (hash_of_word hashes) (word_set words bucket 0 (word-lt words bucket (omega arith))))
+              let here = remove-at each index bucket last_bucket at at_last in
+              grind (arith, common_steps, word_set words bucket 0, word-lt words bucket)
           | inr nb ↦
               let old : slice_index (set words bucket 0) q ≡ slice_index words q = word_other words bucket q 0 nb in
               elim (cases_eq q last_bucket) [
@@ -241,33 +227,25 @@ module _ {hashes words : List ℕ} (x : IsIndexed hashes words) where
         let apart : v.0 ≢ bucket = λ e. full_from _ _ hash° (ap (slot_at slots) (sym e) ∙ v.1.vacant) in
         let before = x.ordered.before bucket v.0 hash hash° v.1.within v.1.vacant in
         let far : probe_distance m (home m hash) bucket + probe_distance m bucket v.0 + 1 ≡ reach hashes m hash =
-        omega (
-          arith,
-          reach_at_vacancy slots x.ordered hashes index-counted hash v.0 v.1,
-          distance_is m (home m hash) bucket in_h,
-          distance_is m (home m hash) v.0 in_h,
-          distance_is m bucket v.0 in_b,
-          before,
-        ) in (
+        grind (arith, common_steps, distance_is, reach_at_vacancy slots x.ordered hashes index-counted hash v.0 v.1) in (
           v.0,
-          subst (λ s. IsOtherEmpty s bucket v.0) (sym slots-remove)
+          rw slots-remove
               (omega (arith, length-set slots bucket None, v.1.within), slot_other slots bucket v.0 None apart ∙ v.1.vacant, apart),
-          subst (λ n. probe_distance n (home n hash) bucket + probe_distance n bucket v.0 + 1 ≡ reach hashes n hash) long far,
+          rw long at far,
         )
 
 -- no pair
 pub IsIndexed-empty : (count : ℕ) → IsBucketCount count → IsIndexed [] (replicate count 0)
-IsIndexed-empty count b =
-    let zeros : List ℕ = replicate count 0 in
-    let long : length zeros ≡ count = length-replicate {A = ℕ} count 0 in
-    let zero_at : (q : ℕ) → slice_index zeros q ≡ 0 =
-    λ q. elim (cases_lt q count) [ inl l ↦ get_or-replicate count q 0 0 l | inr past ↦ get_or_past zeros q 0 (omega arith) ] in
-    record {
-      count = subst IsBucketCount (sym long) b;
-      room = omega arith;
-      each = EachOnce-empty count;
-      ordered = record { before = λ q v h is in_v none. absurd (full_from _ h is (slot_of_zero [] zeros q (zero_at q))) };
-    }
+IsIndexed-empty count b = record {
+  count = rw length-replicate b;
+  room = omega arith;
+  each = EachOnce-empty count;
+  ordered = record {
+    before = λ q v h is in_v none.
+        let zero_at : slice_index (replicate count 0) q ≡ 0 = grind (arith, common_steps, cases_lt q count) in
+        absurd (full_from _ h is (slot_of_zero [] (replicate count 0) q zero_at));
+  };
+}
 
 -- equal columns
 pub IsIndexed-as : {hashes hashes' words words' : List ℕ} → hashes' ≡ hashes → words' ≡ words → IsIndexed hashes words

@@ -4,8 +4,8 @@ use Rattle.half_store.proofs.Common.{◌==◌, count_by, nat_lt, eq-eqb, ne_eqb,
 use Rattle.half_store.proofs.Common.{bucket_after, home, bucket_is_loaded, slot_at, HasVacantSlot, ProbeInvariant, stored, IsSlotVacancy, distance_from_home}
 use Rattle.half_store.proofs.Common.{Work, looked_more, compared_more}
 use Rattle.std.proofs.Common.{◌&&◌}
-use Rattle.std.proofs.lemmas.Bool.{cases_Bool, and_parts, and_from, and_left, and_right}
-use borrow.Author.Tests.{ltb-true, eqb-true}
+use Rattle.std.proofs.lemmas.Bool.{and_parts, and_from, and_left, and_right}
+use borrow.Author.Tests.{ltb-true}
 use Rattle.half_store.specs.Reach.{load}
 use Rattle.half_store.specs.Slots.{FullBefore}
 use Rattle.half_store.proofs.lemmas.table.Circle.{distance_is, probe_distance-lt, bucket_after-lt, probe_distance-bucket_after}
@@ -19,10 +19,33 @@ use Rattle.half_store.proofs.lemmas.tally.{looked_more-zero}
 use Rattle.half_store.proofs.lemmas.table.Slots.{Probes, home_distance, Probes-vacancy, Probes-distance, Probes-next, slot_cases, full_from}
 use Rattle.half_store.proofs.lemmas.table.Slots.{home-lt, full-lt, vacancy_for, full_loaded, vacant_unloaded, stored_passes, passes_stored}
 use Rattle.half_store.proofs.lemmas.table.Slots.{Probes-ahead}
+use Rattle.half_store.proofs.Common.{nat_tests, length}
+use Rattle.half_store.proofs.lemmas.table.Counts.{below-const}
+use Rattle.half_store.proofs.lemmas.table.Slots.{first_none}
 
 -- the hashes are those that are stored, counted by each test
 abbrev pub SameCounts : List ℕ → List (Option ℕ) → Type 0
 SameCounts hashes slots = (test : ℕ → Bool) → count_by test hashes ≡ count_by (stored test) slots
+
+-- no more buckets are full than hashes are held
+full_most : (hashes : List ℕ) (slots : List (Option ℕ)) → SameCounts hashes slots → (Q : ℕ → Bool)
+    → ((q : ℕ) → q < length slots → Q q ≡ true → slot_at slots q ≢ None) → count_to Q (length slots) ≤ length hashes
+full_most hashes slots counted Q full =
+    let any : ℕ → Bool = λ h. true in
+    let some = count_to-le Q (λ q. stored any (slot_at slots q)) (length slots) (λ q in_q e.
+    elim (slot_cases (slot_at slots q)) [ inl z ↦ absurd (full q in_q e z) | inr (h, is) ↦ rw is refl ]) in
+    omega (arith, count_by-le-length any hashes, counted any, count_by-count_to (stored any) slots None)
+
+-- so one bucket is empty if there are fewer hashes
+pub some_vacant : (hashes : List ℕ) (slots : List (Option ℕ)) → SameCounts hashes slots
+    → length hashes < length slots → HasVacantSlot slots
+some_vacant hashes slots counted few =
+    elim (first_none slots (λ k. k) (length slots)) [
+      | inr (k, l, none, before) ↦ (k, l, none)
+      | inl all ↦
+          let most = full_most hashes slots counted (λ p. true) (λ p in_p e. all p in_p) in
+          absurd (omega (arith, most, below-const (length slots) 1))
+    ]
 
 module _ (slots : List (Option ℕ)) where
   abbrev m : ℕ
@@ -60,12 +83,8 @@ module _ (slots : List (Option ℕ)) where
 
   pub passed-le : (start hash d : ℕ) → passed start hash d ≤ count_by (stored (λ held. held == hash)) slots
   passed-le start hash d =
-      omega (
-        arith,
-        count_to-le (passes start hash d) (λ q. stored (λ held. held == hash) (slot_at slots q)) m
-            (λ q in_q e. (and_parts _ _ e).1),
-        count_by-count_to (stored (λ held. held == hash)) slots None,
-      )
+      rw (count_by-count_to (stored (λ held. held == hash)) slots None)
+      (count_to-le (passes start hash d) _ m (λ q in_q e. (and_parts _ _ e).1))
 
 module _ (slots : List (Option ℕ)) (ordered : ProbeInvariant slots) where
   -- a pair that a probe comes to lies before where the probe for its hash ends
@@ -77,16 +96,9 @@ module _ (slots : List (Option ℕ)) (ordered : ProbeInvariant slots) where
   pub passed-all : (hash p : ℕ) → IsSlotVacancy slots hash p
       → passed slots (home (m slots) hash) hash (distance_from_home slots hash p) ≡ count_by (stored (λ held. held == hash)) slots
   passed-all hash p w =
-      count_to-same (passes slots (home (m slots) hash) hash (distance_from_home slots hash p))
-      (λ q. stored (λ held. held == hash) (slot_at slots q)) (m slots) (λ q in_q.
-      elim (cases_Bool (stored (λ held. held == hash) (slot_at slots q))) [
-        | inl yes_q ↦
-            let s = stored_passes slots (λ held. held == hash) (slot_at slots q) yes_q in
-            let is : slot_at slots q ≡ Some hash = s.1 ∙ ap Some (eqb-true _ _ s.2) in
-            and_from _ _ (lt-ltb _ _ (found-before hash q p is w)) yes_q ∙ sym yes_q
-        | inr no_q ↦ and_right _ _ no_q ∙ sym no_q
-      ])
-      ∙ sym (count_by-count_to (stored (λ held. held == hash)) slots None)
+      rw (count_by-count_to (stored (λ held. held == hash)) slots None)
+      (count_to-same _ _ (m slots)
+      (λ q in_q. grind (arith, common_steps, nat_tests, slot_cases (slot_at slots q), found-before hash q p)))
 
   module _ (hashes : List ℕ) (counted : SameCounts hashes slots) where
     pub loaded_where_full : (b : ℕ) → slot_at slots b ≢ None → HasVacantSlot slots → bucket_is_loaded hashes (m slots) b ≡ true
@@ -140,25 +152,13 @@ module _ (slots : List (Option ℕ)) (ordered : ProbeInvariant slots) where
     pub reach_short : (hash : ℕ) → HasVacantSlot slots → reach hashes (m slots) hash ≤ length hashes + 1
     reach_short hash v =
         let w = vacancy_for slots hash v in
-        let p : ℕ = w.0 in
-        let in_p : p < (m slots) = w.1.within in
         let b : ℕ = home (m slots) hash in
-        let in_b : b < (m slots) = home-lt (m slots) hash (omega arith) in
-        let back : ℕ = probe_distance (m slots) b p in
-        let l : back < (m slots) = probe_distance-lt (m slots) b in_b p in_p in
-        let all : ℕ → Bool = λ h. true in
-        let full : (q : ℕ) → q < (m slots) → nat_lt (probe_distance (m slots) b q) back ≡ true
-        → stored all (slot_at slots q) ≡ true = λ q in_q near.
-        elim (slot_cases (slot_at slots q)) [
-          | inl z ↦ absurd (w.1.passed q in_q (ltb-true _ _ near) z)
-          | inr (h, is) ↦ passes_stored slots all (slot_at slots q) h is refl
-        ] in
-        let some = count_to-le (λ q. nat_lt (probe_distance (m slots) b q) back) (λ q. stored all (slot_at slots q)) (m slots) full in
-        let ahead = ahead_size (m slots) b back in_b (omega arith) in
-        let held = count_by-le-length all hashes in
-        let e = counted all in
-        let f = count_by-count_to (stored all) slots None in
-        omega (arith, reach_at_vacancy hash p w.1)
+        let in_b : b < (m slots) = home-lt (m slots) hash (omega (arith, w.1.within)) in
+        let back : ℕ = probe_distance (m slots) b w.0 in
+        let l = probe_distance-lt (m slots) b in_b w.0 w.1.within in
+        let few = full_most hashes slots counted (λ q. nat_lt (probe_distance (m slots) b q) back)
+        (λ q in_q near. w.1.passed q in_q (ltb-true _ _ near)) in
+        omega (arith, ahead_size (m slots) b back in_b (omega arith), reach_at_vacancy hash w.0 w.1)
 
 -- a search has passed full buckets, each counted; each pair of the hash among them was compared once, and refused
 pub record SearchedTo (slots : List (Option ℕ)) (hash : ℕ) (Refused : ℕ → Type 0) (bucket : ℕ) (old new : Work) : Type 0 where
@@ -209,12 +209,8 @@ module _ {slots : List (Option ℕ)} {hash : ℕ} {Refused : ℕ → Type 0} {bu
   -- the bucket holds a pair of the hash: at most as many comparisons as there are such pairs
   pub Searches-found : slot_at slots bucket ≡ Some hash → now.compared + 1 ≤ old.compared + count_by (stored (λ held. held == hash)) slots
   Searches-found is =
-      omega (
-        arith,
-        s.compared,
-        passed-one slots (home (length slots) hash) hash far bucket start_in s.probe.inside refl is,
-        passed-le slots (home (length slots) hash) hash (far + 1),
-      )
+      let one = passed-one slots (home (length slots) hash) hash far bucket start_in s.probe.inside refl is in
+      omega (arith, s.compared, one, passed-le slots (home (length slots) hash) hash (far + 1))
 
   module _ (ordered : ProbeInvariant slots) (none : slot_at slots bucket ≡ None) where
     -- the bucket is empty: each pair of the hash was compared

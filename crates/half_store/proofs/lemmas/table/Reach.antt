@@ -1,10 +1,9 @@
 -- How far a probe goes, by loads only.
-use Rattle.half_store.proofs.Common.{◌≡◌, ◌≤◌, inr, refl, arith, ℕ, ◌-◌, ◌<◌, zero, suc, inl, ap, List, subst, true, false, cases_eq, ne_eqb, bucket_after}
+use Rattle.half_store.proofs.Common.{◌≡◌, ◌≤◌, refl, arith, ℕ, ◌-◌, ◌<◌, zero, suc, ap, List, true, false, cases_eq, ne_eqb, bucket_after}
 use Rattle.half_store.proofs.Common.{home, load, bucket_is_loaded}
-use Rattle.std.proofs.Common.{leb}
-use Rattle.std.proofs.lemmas.Bool.{le-leb, lt-leb, or_from, or_left, or_right}
 use Rattle.half_store.specs.Reach.{loaded_within, loaded_run, reach, IsLoaded}
 use Rattle.half_store.proofs.lemmas.table.Circle.{bucket_after-zero, after_next, bucket_after-lt}
+use Rattle.half_store.proofs.Common.{nat_tests}
 
 module _ (hashes : List ℕ) (m : ℕ) where
   pub loaded_within-yes : (last size most : ℕ) → 1 ≤ size → size ≤ most → size ≤ load hashes m last size
@@ -12,20 +11,14 @@ module _ (hashes : List ℕ) (m : ℕ) where
   unfolding loaded_within
   loaded_within-yes last size zero one small full = absurd (omega arith)
   loaded_within-yes last size (suc most) one small full =
-      elim (cases_eq size (suc most)) [
-        | inl e ↦ or_left (leb (suc most) (load hashes m last (suc most))) (loaded_within hashes m last most)
-            (le-leb _ _ (subst (λ n. n ≤ load hashes m last n) e full))
-        | inr ne ↦ or_right (leb (suc most) (load hashes m last (suc most))) (loaded_within hashes m last most)
-            (loaded_within-yes last size most one (omega arith) full)
-      ]
+      grind (arith, nat_tests, cases_eq size (suc most), loaded_within-yes last size most)
 
   pub loaded_within-no : (last most : ℕ) → ((size : ℕ) → 1 ≤ size → size ≤ most → load hashes m last size < size)
       → loaded_within hashes m last most ≡ false
   unfolding loaded_within
   loaded_within-no last zero h = refl
   loaded_within-no last (suc most) h =
-      or_from (leb (suc most) (load hashes m last (suc most))) (loaded_within hashes m last most)
-      (lt-leb _ _ (h (suc most) (omega arith) (omega arith))) (loaded_within-no last most (λ size one small. h size one (omega arith)))
+      grind (arith, nat_tests, h (suc most), loaded_within-no last most (λ size one small. h size one (omega arith)))
 
   pub bucket_is_loaded-yes : (last : ℕ) → IsLoaded hashes m last → bucket_is_loaded hashes m last ≡ true
   bucket_is_loaded-yes last (size, one, small, full) = loaded_within-yes last size (m - 1) one (omega arith) full

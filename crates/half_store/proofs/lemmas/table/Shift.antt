@@ -10,7 +10,7 @@ use Rattle.std.proofs.lemmas.List.Elements.{All-from_get_or}
 use Rattle.std.proofs.lemmas.List.Sorted.{IsPermutation-append_comm, IsPermutation-remove, IsPermutation-trans}
 use Rattle.half_store.specs.StoreRemoval.{word_after_move, MovesToEnd}
 use Rattle.half_store.proofs.lemmas.table.Buckets.{slots_from-same, within-at}
-use Rattle.half_store.proofs.lemmas.table.Counts.{count_to, count_to-same, count_by-count_to}
+use Rattle.half_store.proofs.lemmas.table.Counts.{count_to-same, count_by-count_to}
 use Rattle.half_store.proofs.lemmas.table.History.{reach-permutation}
 
 module _ (pairs index : ℕ) (within : index < pairs) where
@@ -73,12 +73,9 @@ module _ (hashes : List ℕ) (index : ℕ) (within : index < length hashes) wher
 
     -- to remove the last one then reads no more than two unsuccessful probes
     pub reads-moved : (m : ℕ) → removal_reads moved m last ≤ 2 * reach hashes m (slice_index hashes index)
-    reads-moved m = omega (
-      arith,
-      ap (reach moved m) (last-moved last refl),
-      ap (reach moved m) (last-moved (length moved - 1) (omega (arith, length-moved))),
-      reach-permutation hashes moved m (slice_index hashes index) same_elements,
-    )
+    reads-moved m =
+        let there = reach-permutation hashes moved m (slice_index hashes index) same_elements in
+        rw (last-moved last refl, last-moved (length moved - 1) (omega (arith, length-moved))) (omega arith)
 
   module _ {words words' : List ℕ} (x : IsIndexed hashes words) (m : MovesToEnd (length hashes) index words words') where
     slots-moved : slots_from moved words' ≡ slots_from hashes words
@@ -90,11 +87,10 @@ module _ (hashes : List ℕ) (index : ℕ) (within : index < length hashes) wher
       within = All-from_get_or (λ word. word ≤ length hashes) words' 0 (λ bucket l. subst (λ word. word ≤ length hashes) (sym (m.words bucket))
           (moved_word-le (length hashes) index within _ (within-at (length hashes) words bucket x.each.within)));
       once = λ at l.
-          count_by-count_to (λ word. word == suc at) words' 0
-          ∙ ap (count_to (λ bucket. slice_index words' bucket == suc at)) m.len
-          ∙ count_to-same _ (λ bucket. slice_index words bucket == suc (before (length hashes) index within at)) (length words)
-          (λ bucket in_words. ap (λ word. word == suc at) (m.words bucket)
-          ∙ same_test (length hashes) index within at _ l (within-at (length hashes) words bucket x.each.within))
+          rw (count_by-count_to (λ word. word == suc at) words' 0, m.len)
+          (count_to-same _ (λ bucket. slice_index words bucket == suc (before (length hashes) index within at)) (length words)
+          (λ bucket in_words. rw m.words
+          (same_test (length hashes) index within at _ l (within-at (length hashes) words bucket x.each.within))))
           ∙ sym (count_by-count_to (λ word. word == suc (before (length hashes) index within at)) words 0)
           ∙ x.each.once _ (before-lt (length hashes) index within at l);
     }

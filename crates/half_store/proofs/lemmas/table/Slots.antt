@@ -12,17 +12,15 @@ use Rattle.half_store.proofs.lemmas.table.Circle.{probe_distance-lt, distance_se
 use Rattle.half_store.proofs.lemmas.table.Circle.{probe_distance-bucket_after, bucket_after-probe_distance, distance_same, down-lt}
 use Rattle.half_store.proofs.lemmas.table.Circle.{probe_distance-down, down-probe_distance, home_in_stretch, nearer_than_home, after_is}
 use Rattle.half_store.proofs.lemmas.table.Counts.{count_to, count_to-le, count_to-lt, count_by-count_to, stretch_size}
+use Rattle.half_store.proofs.Common.{nat_tests}
 
 pub slot_cases : (o : Option ℕ) → (o ≡ None) ⊎ ((hash : ℕ) × (o ≡ Some hash))
 slot_cases None = inl refl
 slot_cases (Some h) = inr (h, refl)
 
-pub some≢none : (h : ℕ) → Some h ≡ None → ⊥
-some≢none h e = cc
-
 -- a bucket that holds a hash is not empty
 pub full_from : (o : Option ℕ) (h : ℕ) → o ≡ Some h → o ≢ None
-full_from o h e z = some≢none h (sym e ∙ z)
+full_from o h e z = cc
 
 -- a bucket that was written, and each other one
 pub slot_set : (slots : List (Option ℕ)) (p : ℕ) (o : Option ℕ) → p < length slots → slot_at (set slots p o) p ≡ o
@@ -57,25 +55,24 @@ module _ (slots : List (Option ℕ)) where
         ]
       ]
 
-  -- a probe from b that ends at an empty bucket
-  pub probe_ends : (b : ℕ) → b < m → HasVacantSlot slots → (p : ℕ) × (p < m) × (slot_at slots p ≡ None) × FullBefore slots b p
-  probe_ends b in_b (v, in_v, none_v) =
+  -- a probe for the hash ends at an empty bucket
+  pub vacancy_for : (hash : ℕ) → HasVacantSlot slots → (p : ℕ) × IsSlotVacancy slots hash p
+  vacancy_for hash (v, in_v, none_v) =
+      let b : ℕ = home m hash in
+      let in_b : b < m = home-lt m hash (omega arith) in
       elim (first_none (λ k. bucket_after m b k) m) [
         | inl all ↦ absurd (all (probe_distance m b v) (probe_distance-lt m b in_b v in_v)
             (ap (slot_at slots) (bucket_after-probe_distance m b in_b v in_v) ∙ none_v))
         | inr (k, l, none, before) ↦ (
           bucket_after m b k,
-          bucket_after-lt m b in_b k (omega arith),
-          none,
-          λ o in_o nearer. subst (λ q. slot_at slots q ≢ None) (bucket_after-probe_distance m b in_b o in_o)
-              (before (probe_distance m b o) (subst (λ n. probe_distance m b o < n) (probe_distance-bucket_after m b in_b k l) nearer)),
+          record {
+            within = bucket_after-lt m b in_b k (omega arith);
+            vacant = none;
+            passed = λ o in_o nearer. subst (λ q. slot_at slots q ≢ None) (bucket_after-probe_distance m b in_b o in_o)
+                (before (probe_distance m b o) (omega (arith, probe_distance-bucket_after m b in_b k l)));
+          },
         )
       ]
-
-  pub vacancy_for : (hash : ℕ) → HasVacantSlot slots → (p : ℕ) × IsSlotVacancy slots hash p
-  vacancy_for hash v =
-      let w = probe_ends (home m hash) (home-lt m hash (let l = v.1 in omega arith)) v in
-      (w.0, record { within = w.1; vacant = w.2; passed = w.3 })
 
   -- how many stored hashes have their home in the stretch
   abbrev pub slots_load : ℕ → ℕ → ℕ
@@ -113,10 +110,8 @@ module _ (slots : List (Option ℕ)) where
               elim (slot_cases (slot_at slots p)) [
                 | inl z ↦ absurd (before (probe_distance m p b) n (ap (slot_at slots) (down-probe_distance m b in_b p in_p) ∙ z))
                 | inr (h, is) ↦
-                    let in_h = home-lt m h (omega arith) in
                     let x = ordered.before p e h is in_e none in
-                    let y = home_in_stretch m (home m h) p e b in_h in_p in_e in_b x (omega arith) in
-                    passes_stored (λ hash. nat_lt (probe_distance m (home m hash) b) k) (slot_at slots p) h is (lt-ltb _ _ (omega arith))
+                    grind (arith, common_steps, home-lt, home_in_stretch m (home m h) p e b, nat_tests)
               ] in
               let count = count_to-le (λ p. ltb (probe_distance m p b) k) (in_stretch b k) m homes in
               (k, long, l, omega (arith, stretch_size m b k in_b (omega arith), slots_load-count_to b k))
@@ -127,11 +122,8 @@ module _ (slots : List (Option ℕ)) where
     vacant_unloaded b in_b none size one small =
         let inside : (p : ℕ) → p < m → in_stretch b size p ≡ true → ltb (probe_distance m p b) size ≡ true = λ p in_p near.
         let s = stored_passes _ (slot_at slots p) near in
-        let h : ℕ = s.0 in
-        let n : probe_distance m (home m h) b < size = ltb-true _ _ s.2 in
-        let x = ordered.before p b h s.1 in_b none in
-        let y = nearer_than_home m (home m h) p b (home-lt m h (omega arith)) in_p in_b x in
-        lt-ltb _ _ (omega arith) in
+        let x = ordered.before p b s.0 s.1 in_b none in
+        grind (arith, nat_tests, home-lt, nearer_than_home m (home m s.0) p b, s.2) in
         let out : in_stretch b size b ≡ false = ap (stored (λ hash. nat_lt (probe_distance m (home m hash) b) size)) none in
         let own : ltb (probe_distance m b b) size ≡ true = lt-ltb _ _ (omega (arith, distance_self m b in_b)) in
         let fewer = count_to-lt (in_stretch b size) (λ p. ltb (probe_distance m p b) size) m b in_b out own inside in

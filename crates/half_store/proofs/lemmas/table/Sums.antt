@@ -1,12 +1,13 @@
 -- Sums over buckets and over the hashes in them.
-use Rattle.half_store.proofs.Common.{◌≡◌, ◌≤◌, ◌+◌, inr, refl, ◌∙◌, arith, ℕ, zero, suc, inl, sym, Bool, List, Some, Option, None}
-use Rattle.half_store.proofs.Common.{[], ◌∷◌, count_by, nat_lt, cases_lt, lt-ltb, le-ltb, sum_by-cons, slot_at, stored}
+use Rattle.half_store.proofs.Common.{◌≡◌, ◌≤◌, ◌+◌, refl, ◌∙◌, arith, ℕ, zero, suc, sym, Bool, List, Some, Option, None}
+use Rattle.half_store.proofs.Common.{[], ◌∷◌, count_by, nat_lt, sum_by-cons, slot_at, stored}
 use Rattle.half_store.proofs.Common.{reads_up_to}
 use Rattle.std.proofs.Common.{sum_by, min}
 use Rattle.half_store.specs.Work.{sum_below}
 pub use Rattle.half_store.proofs.lemmas.table.Counts.{below-same, below-plus, below-const, below-swap, below-first, below-zero, below-more, below-one, sum_by-below}
-use Rattle.half_store.proofs.lemmas.table.Counts.{tick, tick_yes, tick_no}
+use Rattle.half_store.proofs.lemmas.table.Counts.{tick}
 use Rattle.half_store.proofs.lemmas.table.Probe.{SameCounts}
+use Rattle.half_store.proofs.Common.{common_steps, nat_tests}
 
 -- an empty bucket adds 0
 abbrev pub of_slot : (ℕ → ℕ) → Option ℕ → ℕ
@@ -25,22 +26,10 @@ sum_by-zero f none (x ∷ xs) = omega (arith, sum_by-cons f x xs, none x, sum_by
 layer : {X : Type 0} (more fewer : X → ℕ) (test : X → Bool) → ((x : X) → more x ≡ fewer x + tick (test x))
     → (xs : List X) → sum_by more xs ≡ sum_by fewer xs + count_by test xs
 layer more fewer test step [] = refl
-layer more fewer test step (x ∷ xs) =
-    omega (
-      arith,
-      sum_by-cons more x xs,
-      sum_by-cons fewer x xs,
-      sum_by-cons (λ y. tick (test y)) x xs,
-      step x,
-      layer more fewer test step xs,
-    )
+layer more fewer test step (x ∷ xs) = grind (arith, common_steps, sum_by-cons, step x, layer more fewer test step xs)
 
 cap-more : (n cap : ℕ) → min n (suc cap) ≡ min n cap + tick (nat_lt cap n)
-cap-more n cap =
-    elim (cases_lt cap n) [
-      | inl l ↦ let yes : tick (nat_lt cap n) ≡ 1 = tick_yes _ (lt-ltb cap n l) in omega arith
-      | inr ge ↦ let none : tick (nat_lt cap n) ≡ 0 = tick_no _ (le-ltb cap n ge) in omega arith
-    ]
+cap-more n cap = grind (arith, nat_tests)
 
 module _ (hashes : List ℕ) (slots : List (Option ℕ)) (counted : SameCounts hashes slots) (weight : ℕ → ℕ) where
   abbrev capped : ℕ → ℕ → ℕ

@@ -1,10 +1,9 @@
 -- A search that goes down from the end.
-use Rattle.half_store.proofs.Common.{◌≡◌, ◌≤◌, ◌+◌, ◌∙◌, arith, ℕ, ◌-◌, ◌<◌, ap, Option, subst, cases_lt, common_steps, Work, compared_more}
+use Rattle.half_store.proofs.Common.{◌≡◌, ◌≤◌, ◌+◌, ◌∙◌, arith, ℕ, ◌-◌, ◌<◌, ap, Option, subst, cases_lt, Work, compared_more}
 use Rattle.std.proofs.Common.{⊎_elim, eq-or-lt_of_le}
 use Rattle.half_store.specs.Work.{first_match_cost}
 use Rattle.half_store.specs.Search.{IsVectorSearchCost}
 use Rattle.half_store.specs.declared.vecmap.search.Scan.{Scan}
-use Rattle.half_store.specs.declared.vecmap.search.Scan.TheVariants.{ByBlock}
 
 -- what holds from an index on, and of the one before it, holds from that one on
 pub from_before : (P : ℕ → Type 0) (index end : ℕ) → 0 < index → ((k : ℕ) → index ≤ k → k < end → P k) → P (index - 1)
@@ -12,26 +11,10 @@ pub from_before : (P : ℕ → Type 0) (index end : ℕ) → 0 < index → ((k :
 from_before P index end some all here k from within =
     ⊎_elim (λ is. subst P is here) (λ more. all k (omega (arith, more)) within) (eq-or-lt_of_le from)
 
-pub compared_again : (n m : ℕ) (w between after : Work) → m ≡ n + 1 → between ≡ compared_more n w → after ≡ compared_more 1 between
-    → after ≡ compared_more m w
-compared_again n m w between after more before one = grind (arith, common_steps)
-
 -- what holds below an index, and from it on, holds of all
 pub below_and_from : (P : ℕ → Type 0) (index end : ℕ) → ((k : ℕ) → k < index → P k) → ((k : ℕ) → index ≤ k → k < end → P k)
     → (k : ℕ) → k < end → P k
 below_and_from P index end below from k within = ⊎_elim (λ less. below k less) (λ not_less. from k not_less within) (cases_lt k index)
-
--- keys compared in turn, the first ones and those behind them
-pub compared_all : (first start more : ℕ) (w between after : Work) → first ≤ start → between ≡ compared_more (start - first) w
-    → after ≡ compared_more (start + more - start) between → after ≡ compared_more (start + more - first) w
-compared_all first start more w between after from before then = grind (arith, common_steps)
-
-pub compared_none : (w : Work) → w ≡ compared_more 0 w
-compared_none w = grind (arith, common_steps)
-
-pub compared_behind : (first n : ℕ) (w between after : Work) → first ≤ n → between ≡ compared_more first w
-    → after ≡ compared_more (n - first) between → after ≡ compared_more n w
-compared_behind first n w between after from before then = grind (arith, common_steps)
 
 -- each key up to where the search ended was compared once
 pub in_order : {scan : Scan} {found : Option ℕ} {n len : ℕ} {w after : Work} → after ≡ compared_more n w → n ≡ first_match_cost found len
@@ -45,8 +28,3 @@ in_order {w = w} work cost within =
       by_key = λ _. compared ∙ ap (λ n. w.compared + n) cost;
       looked = ap (λ v. v.looked) work;
     }
-
--- each key up to the end of the block where the search ended was compared once
-pub by_block : {found : Option ℕ} {n len : ℕ} {w after : Work} → after ≡ compared_more n w → first_match_cost found len ≤ n → n ≤ len
-    → IsVectorSearchCost ByBlock found len w after
-by_block work cost within = grind (arith, common_steps)

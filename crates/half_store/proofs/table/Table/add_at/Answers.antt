@@ -1,8 +1,9 @@
-use Rattle.half_store.proofs.Common.{◌≡◌, length, ◌+◌, ◌∙◌, arith, ◌<◌, suc, sym, ap, subst, set, length-set, capacity_of, state_of_words}
+use Rattle.half_store.proofs.Common.{◌≡◌, length, ◌+◌, ◌∙◌, arith, ◌<◌, suc, sym, ap, subst, set, length-set, capacity_of}
 use Rattle.half_store.proofs.Common.{AreWordsFor, words_of}
-use Rattle.half_store.specs.Table.{with_hash_in, IsTableVacancy}
+use Rattle.half_store.specs.Table.{IsTableVacancy}
 use Rattle.half_store.proofs.lemmas.table.Layout.{IsIndexed-add, IsTable-as, count_seen}
 use Rattle.half_store.proofs.table.Table.add_at.Goals as goal
+use Rattle.half_store.proofs.Common.{common_steps}
 
 pub invariant_of-self : goal.invariant_of-self
 invariant_of-self c =
@@ -22,12 +23,4 @@ invariant_of-self c =
     (omega (arith, same, x.exact, c.push_reserved.ensures.capacity))
 
 pub returns-clause-after : goal.returns-clause-after
-returns-clause-after c =
-    let t = c.self.inside in
-    let words = words_of t.buckets in
-    let hash = c.args.hash in
-    let bucket = c.args.bucket in
-    let index : c.len-word.result + 1 ≡ suc (length t.hashes.items) =
-    omega (arith, ap (λ v. length v.hashes) c.self.view_is, c.len-word.ensures.value) in
-    let written = c.set_word.ensures.words ∙ ap (set words bucket) index in
-    (λ i. state_of_words (c.push_reserved.ensures.items i) (written i)) ∙ ap (λ v. with_hash_in v hash bucket) c.self.view_is
+returns-clause-after c = grind (arith, common_steps)

@@ -1,6 +1,5 @@
 use Rattle.half_store.proofs.Common.{ap, words_of}
 use Rattle.half_store.proofs.lemmas.table.Find.{probe_seen}
-use Rattle.half_store.proofs.lemmas.table.Layout.{buckets_seen}
 use Rattle.half_store.proofs.table.Table.insertion_probe.Goals as goal
 
 pub returns-in-FourBytes-clause-cost : goal.returns-in-FourBytes-clause-cost
@@ -8,13 +7,7 @@ returns-in-FourBytes-clause-cost c =
     probe_seen c.self.view_is c.as_slice-hashes.ensures.value (ap words_of c.in-FourBytes.is) c.args.hash c.args.tally.now
     c.first_empty.new.tally c.first_empty.ensures.cost
 
-pub returns-in-FourBytes-clause-buckets : goal.returns-in-FourBytes-clause-buckets
-returns-in-FourBytes-clause-buckets c = buckets_seen _ _ c.self.invariant.indexed c.self.view_is
-
 pub returns-in-EightBytes-clause-cost : goal.returns-in-EightBytes-clause-cost
 returns-in-EightBytes-clause-cost c =
     probe_seen c.self.view_is c.as_slice-hashes.ensures.value (ap words_of c.in-EightBytes.is) c.args.hash c.args.tally.now
     c.first_empty-in-EightBytes.new.tally c.first_empty-in-EightBytes.ensures.cost
-
-pub returns-in-EightBytes-clause-buckets : goal.returns-in-EightBytes-clause-buckets
-returns-in-EightBytes-clause-buckets c = buckets_seen _ _ c.self.invariant.indexed c.self.view_is

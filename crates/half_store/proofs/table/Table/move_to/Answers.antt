@@ -2,6 +2,7 @@ use Rattle.half_store.proofs.Common.{◌≤◌, length, refl, ◌∙◌, arith, 
 use Rattle.half_store.specs.Words.{room_of}
 use Rattle.half_store.proofs.lemmas.table.Layout.{IsTable-as}
 use Rattle.half_store.proofs.table.Table.move_to.Goals as goal
+use Rattle.half_store.proofs.Common.{common_steps}
 
 pub rehash-requires : goal.rehash-requires
 rehash-requires c =
@@ -26,6 +27,4 @@ invariant_of-self c =
     (subst (AreWordsFor _) (sym (ap capacity_of long)) memory.sized) (c.move_to.ensures.capacity ∙ memory.exact ∙ sym (ap capacity_of long))
 
 pub returns-clause-buckets : goal.returns-clause-buckets
-returns-clause-buckets c =
-    c.rehash.ensures.len ∙ ap length c.into_empty-buckets.ensures.words
-    ∙ length-replicate {A = ℕ} (room_of c.memory.inside.buckets) 0 ∙ c.memory.view_is
+returns-clause-buckets c = grind (arith, common_steps)

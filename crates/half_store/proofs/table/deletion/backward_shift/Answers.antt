@@ -1,8 +1,8 @@
-use Rattle.half_store.proofs.Common.{◌≡◌, ◌≤◌, length, inr, refl, ◌∙◌, arith, ℕ, ◌-◌, ◌^◌, ◌<◌, inl, sym, ap, List, slice_index, subst, ◌≢◌, set, cases_lt}
+use Rattle.half_store.proofs.Common.{◌≡◌, ◌≤◌, length, inr, refl, ◌∙◌, arith, ℕ, ◌-◌, inl, sym, ap, List, slice_index, subst, ◌≢◌, set, cases_lt}
 use Rattle.half_store.proofs.Common.{common_steps, length-set, capacity_of, IsBucketCount, probe_distance, home, IsIndexed, Work, looked_more}
 use Rattle.std.proofs.lemmas.List.{set-get_or}
 use Rattle.half_store.proofs.lemmas.table.Circle.{probe_distance-lt}
-use Rattle.half_store.proofs.lemmas.table.Deletion.{Shifts, Ahead, Shifts-start, Ahead-start, word_within, gap_distance, first_distance, one_farther}
+use Rattle.half_store.proofs.lemmas.table.Deletion.{Shifts-start, Ahead-start, word_within, gap_distance, first_distance, one_farther}
 use Rattle.half_store.proofs.lemmas.table.Deletion.{fewer_ahead, Shifts-end, Shifts-stay, Ahead-stay, Shifts-move, Ahead-move}
 use Rattle.half_store.proofs.lemmas.table.Mask.{count-le_half}
 use Rattle.half_store.proofs.lemmas.tally.{looked_more-zero, looked_more-one}
@@ -44,31 +44,20 @@ pub returns-clause-cost : goal.returns-clause-cost
 returns-clause-cost g c = grind (arith, common_steps)
 
 -- the probe distances that are compared have no sign
-unsigned : {count m gap bucket start distance from_home : ℕ} {hashes words : List ℕ} → IsBucketCount count → m ≡ count → m < 2 ^ 64
-    → Shifts m hashes words start gap bucket → distance ≡ probe_distance m gap bucket → (home_is : ℕ) → home_is < m
-    → from_home ≡ probe_distance m home_is bucket → (from_home < 2 ^ 63) × (distance < 2 ^ 63)
-unsigned {count} {m} {gap} {bucket} is same fits s apart home_is in_home far =
-    let half = count-le_half count is (omega arith) in
-    let bucket_in = s.bucket_in in
-    (omega (arith, probe_distance-lt m home_is in_home bucket bucket_in), omega (arith, probe_distance-lt m gap s.gap_in bucket bucket_in))
-
 pub if_less-place-requires : goal.if_less-place-requires
 if_less-place-requires g c =
-    let small = unsigned c.requires.count c.count-count.ensures c.count-count.type_inv c.loop-word.invariant.shifts
-    c.loop-word.invariant.apart c.home.result c.home.ensures.bound c.probe_distance-from_home.ensures in
-    record { first = small.0; second = small.1 }
+    let half = count-le_half c.count-count.result (rw c.count-count.ensures c.requires.count) c.count-count.type_inv in
+    grind (arith, common_steps, probe_distance-lt)
 
 pub if_less-gap-requires : goal.if_less-gap-requires
 if_less-gap-requires g c =
-    let small = unsigned c.requires.count c.count-count.ensures c.count-count.type_inv c.loop-word.invariant.shifts
-    c.loop-word.invariant.apart c.home.result c.home.ensures.bound c.probe_distance-from_home.ensures in
-    record { first = small.0; second = small.1 }
+    let half = count-le_half c.count-count.result (rw c.count-count.ensures c.requires.count) c.count-count.type_inv in
+    grind (arith, common_steps, probe_distance-lt)
 
 pub if_less-distance-requires : goal.if_less-distance-requires
 if_less-distance-requires g c =
-    let small = unsigned c.requires.count c.count-count.ensures c.count-count.type_inv c.loop-word.invariant.shifts
-    c.loop-word.invariant.apart c.home.result c.home.ensures.bound c.probe_distance-from_home.ensures in
-    record { first = small.0; second = small.1 }
+    let half = count-le_half c.count-count.result (rw c.count-count.ensures c.requires.count) c.count-count.type_inv in
+    grind (arith, common_steps, probe_distance-lt)
 
 pub set_word-requires-clause-fits : goal.set_word-requires-clause-fits
 set_word-requires-clause-fits g c = grind (arith, common_steps, word_within)
@@ -110,20 +99,11 @@ loop-word-preserved g c =
           let moved = Shifts-move i.shifts a next some e (omega (arith, ge, far, i.apart)) in
           record {
             read = c.word_at-word-in-loop-word.ensures.value;
-            apart = omega (
-              arith,
-              gap_distance moved,
-              on,
-              c.if_less-distance.ensures.not_less ge,
-              ap (λ p. probe_distance m p next) left,
-            );
+            apart = rw left (omega (arith, gap_distance moved, on, c.if_less-distance.ensures.not_less ge));
             most = c.set_word.ensures.most ∙ i.most;
             counted = counted;
-            shifts = subst (λ ws. Shifts m hs ws start c.if_less-gap.result next) (sym wrote)
-                (subst (λ p. Shifts m hs (set words l.gap (slice_index words l.bucket)) start p next) (sym left) moved);
-            ahead = λ v is. subst (λ ws. Ahead m hs ws start c.if_less-gap.result next v) (sym wrote)
-                (subst (λ p. Ahead m hs (set words l.gap (slice_index words l.bucket)) start p next v) (sym left)
-                (Ahead-move i.shifts (i.ahead v is) next some e));
+            shifts = rw (wrote, left) moved;
+            ahead = λ v is. rw (wrote, left) (Ahead-move i.shifts (i.ahead v is) next some e);
           }
       | inl lt ↦
           let here = c.if_less-place.ensures.less lt in
@@ -132,21 +112,11 @@ loop-word-preserved g c =
           let stayed = Shifts-stay i.shifts a next some e (omega (arith, lt, far, i.apart)) in
           record {
             read = c.word_at-word-in-loop-word.ensures.value;
-            apart = omega (
-              arith,
-              gap_distance stayed,
-              gap_distance i.shifts,
-              i.apart,
-              on,
-              c.if_less-distance.ensures.less lt,
-              ap (λ p. probe_distance m p next) still,
-            );
+            apart = rw still
+                (omega (arith, gap_distance stayed, gap_distance i.shifts, i.apart, on, c.if_less-distance.ensures.less lt));
             most = c.set_word.ensures.most ∙ i.most;
             counted = counted;
-            shifts = subst (λ ws. Shifts m hs ws start c.if_less-gap.result next) (sym same)
-                (subst (λ p. Shifts m hs words start p next) (sym still) stayed);
-            ahead = λ v is.
-                subst (λ ws. Ahead m hs ws start c.if_less-gap.result next v) (sym same)
-                (subst (λ p. Ahead m hs words start p next v) (sym still) (Ahead-stay i.shifts (i.ahead v is) next some e));
+            shifts = rw (same, still) stayed;
+            ahead = λ v is. rw (same, still) (Ahead-stay i.shifts (i.ahead v is) next some e);
           }
     ]

@@ -1,6 +1,6 @@
-use Rattle.half_store.proofs.Common.{◌≡◌, length, ◌+◌, ◌∙◌, arith, ℕ, ◌<◌, suc, sym, ap, slice_index, common_steps, probe_distance, home, looked_more}
+use Rattle.half_store.proofs.Common.{◌≡◌, length, ◌+◌, ◌∙◌, arith, ℕ, ◌<◌, suc, ap, slice_index, common_steps, probe_distance, home}
 use Rattle.half_store.proofs.lemmas.table.Buckets.{word-lt, some_bucket}
-use Rattle.half_store.proofs.lemmas.table.Circle.{distance_same, next_farther, probe_distance-lt}
+use Rattle.half_store.proofs.lemmas.table.Circle.{distance_same, next_farther}
 use Rattle.half_store.proofs.lemmas.table.Layout.{deletion_steps}
 use Rattle.half_store.proofs.lemmas.tally.{looked_more-one}
 use Rattle.half_store.proofs.table.deletion.bucket_of.Given.{Over}
@@ -37,22 +37,12 @@ loop-bucket-init g c = grind (arith, deletion_steps)
 pub loop-bucket-preserved : goal.loop-bucket-preserved
 loop-bucket-preserved g c =
     let b = some_bucket c.requires.indexed.each c.args.index c.requires.within in
-    record {
-      inside = omega (arith, c.next-bucket.ensures.bound, c.count-count.ensures);
-      counted = c.word_at.ensures.counted ∙ looked_more-one c.args.tally.now c.loop-bucket.tally _ c.loop-bucket.invariant.counted
-          ∙ ap (λ n. looked_more n c.args.tally.now) (sym (one_on g c b.0 b.2));
-      ahead = λ target is. omega (arith, one_on g c target is, farther g c target is);
-    }
+    grind (arith, deletion_steps, farther g c, one_on g c, looked_more-one, b.2)
 
 pub loop-bucket-smaller : goal.loop-bucket-smaller
 loop-bucket-smaller g c =
     let b = some_bucket c.requires.indexed.each c.args.index c.requires.within in
-    omega (
-      arith,
-      one_on g c b.0 b.2,
-      farther g c b.0 b.2,
-      probe_distance-lt (m g c b.0 b.2) (start g c b.0 b.2) (in_start g c b.0 b.2) b.0 b.1,
-    )
+    grind (arith, deletion_steps, one_on g c b.0 b.2, farther g c b.0 b.2, in_start g c b.0 b.2)
 
 pub returns-clause-near : goal.returns-clause-near
 returns-clause-near g c = grind (arith, deletion_steps)

@@ -1,5 +1,5 @@
-use Rattle.half_store.proofs.Common.{◌≡◌, length, take, ◌+◌, refl, ◌∙◌, arith, ℕ, ◌-◌, ◌<◌, suc, sym, ap, List, slice_index, subst, set, length-set}
-use Rattle.half_store.proofs.Common.{get_or_default, swap_remove, probe_distance, slots_from, IsIndexedWithGap, IsOtherEmpty, IsIndexed, Work, ReadsWithin, reach}
+use Rattle.half_store.proofs.Common.{◌≡◌, length, take, ◌+◌, refl, ◌∙◌, arith, ℕ, ◌-◌, ◌<◌, suc, sym, ap, List, slice_index, set, length-set}
+use Rattle.half_store.proofs.Common.{get_or_default, swap_remove, probe_distance, IsIndexedWithGap, IsIndexed, Work, ReadsWithin, reach}
 use Rattle.std.proofs.lemmas.Option.{slice_get_read}
 use Rattle.half_store.specs.Work.{removal_reads_at}
 use Rattle.half_store.specs.StoreRemoval.{ShiftReadsWithin}
@@ -20,23 +20,17 @@ module _ {hs ws : List ℕ} (x : IsIndexed hs ws) (index bucket last_bucket : �
   is_last : suc (length hs - 1) ≡ length hs
   is_last = omega (arith, within)
 
-  renamed : set ws last_bucket (suc index) ≡ words
-  renamed = sym (w ∙ ap (set ws last_bucket) one)
-
   gap_left : IsIndexedWithGap hashes (set words bucket 0) bucket
-  gap_left =
-      subst (λ y. IsIndexedWithGap hashes (set y bucket 0) bucket) renamed
-      (subst (λ y. IsIndexedWithGap y (set (set ws last_bucket (suc index)) bucket 0) bucket) (sym h)
-      (IsIndexed-remove x index (length hs - 1) bucket last_bucket is_last (at ∙ one) (at_last ∙ sym is_last)))
+  gap_left = rw (h, w, one)
+      (IsIndexed-remove x index (length hs - 1) bucket last_bucket is_last (at ∙ one) (at_last ∙ sym is_last))
 
   cost_left : {old before new : Work} → before.asked ≡ old.asked → before.compared ≡ old.compared
       → before.looked < old.looked + reach hs (length ws) (slice_index hs (length hs - 1))
       → ShiftReadsWithin hashes words bucket before new → ReadsWithin (removal_reads_at hs (length ws) index bucket) old new
   cost_left {old} {before} {new} asked compared near told =
       let v = vacant-remove x index (length hs - 1) bucket last_bucket is_last (at ∙ one) (at_last ∙ sym is_last) in
-      let empty = subst (λ ys. IsOtherEmpty (slots_from (swap_remove hs index 0) (set ys bucket 0)) bucket v.0) renamed v.1 in
-      let shift = subst (λ ys. ShiftReadsWithin ys words bucket before new) h told v.0 empty in
-      let far = ap (λ n. probe_distance n bucket v.0) (ap length w ∙ length-set ws last_bucket (index + 1)) in
+      let shift = (rw (h, w, one) at told) v.0 v.1 in
+      let far = ap (λ n. probe_distance n bucket v.0) (length-set ws last_bucket (suc index)) in
       record {
         asked = shift.asked ∙ asked;
         compared = shift.compared ∙ compared;

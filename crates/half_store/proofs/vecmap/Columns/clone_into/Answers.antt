@@ -1,7 +1,8 @@
-use Rattle.half_store.proofs.Common.{length, arith, ap, subst, AllZip, zip}
+use Rattle.half_store.proofs.Common.{arith, subst, AllZip, zip}
 use Rattle.half_store.proofs.lemmas.vecmap.Columns.{opened}
 use Rattle.half_store.proofs.lemmas.vecmap.Zip.{all_zip-zip}
 use Rattle.half_store.proofs.vecmap.Columns.clone_into.Goals as goal
+use Rattle.half_store.proofs.lemmas.vecmap.Columns.{columns_steps}
 
 pub returns-clause-pairs : goal.returns-clause-pairs
 returns-clause-pairs g c =
@@ -16,7 +17,4 @@ returns-clause-pairs g c =
     (subst (λ xs. AllZip D xs vs) c.as_slice-2.ensures.value c.in_ok-values.ensures.items))
 
 pub clone_all-requires-clause-fits : goal.clone_all-requires-clause-fits
-clone_all-requires-clause-fits g c =
-    let o = opened c.self.inside.keys c.self.inside.values c.args.self.now c.self.view_is c.self.invariant in
-    let f = opened c.fresh.inside.keys c.fresh.inside.values c.args.fresh c.fresh.view_is c.fresh.invariant in
-    omega (arith, ap length c.as_slice.ensures.value, o.keys_length, f.capacity, c.requires.fits)
+clone_all-requires-clause-fits g c = grind (arith, columns_steps)

@@ -1,8 +1,7 @@
-use Rattle.half_store.proofs.Common.{◌≡◌, length, ◌++◌, refl, ◌∙◌, arith, ◌-◌, ◌<◌, sym, ap, Some, None, subst, [], ◌∷◌, zip, set_value_at, swap_remove_at, get_or_default}
+use Rattle.half_store.proofs.Common.{◌≡◌, length, ◌++◌, refl, ◌∙◌, arith, ◌-◌, ◌<◌, sym, ap, Some, None, subst, [], ◌∷◌, get_or_default}
 use Rattle.std.specs.List.{SwappedAt}
 use Rattle.half_store.proofs.lemmas.vecmap.Columns.{columns_steps, opened, pair_read}
 use Rattle.half_store.proofs.lemmas.vecmap.Replace.{restored}
-use Rattle.half_store.proofs.lemmas.vecmap.Zip.{zip-swap_remove_at, zip-set_value}
 use Rattle.half_store.proofs.vecmap.Columns.replace_with.Goals as goal
 
 pub f-requires : goal.f-requires
@@ -27,10 +26,10 @@ returns-in-Some-clause-replaces g c =
       answer = Some c.in-Some.value;
       pair = pair_read o index c.requires.within c.index.ensures taken.ensures.value;
       answered = record { shown = c.index.result; shows = refl; met = c.in-Some.ensures };
-      pairs = ap (zip c.self.inside.keys.items)
-          (restored values c.push_reserved.new.self.items c.swap.new.self.items index taken.result c.in-Some.value
-          (omega (arith, o.values_length, c.requires.within)) pushed swapped long)
-          ∙ zip-set_value c.self.inside.keys.items values index c.in-Some.value ∙ ap (λ ps. set_value_at ps index c.in-Some.value) o.pairs;
+      pairs =
+          let back = restored values c.push_reserved.new.self.items c.swap.new.self.items index taken.result c.in-Some.value
+          (omega (arith, o.values_length, c.requires.within)) pushed swapped long in
+          grind (arith, columns_steps);
       removed_is = refl;
     }
 
@@ -47,7 +46,6 @@ returns-in-None-clause-replaces g c =
       answer = None;
       pair = pair_read o index c.requires.within c.index.ensures taken.ensures.value;
       answered = record { shown = c.index.result; shows = refl; met = c.in-None.ensures };
-      pairs = (λ j. zip (c.swap_remove.ensures.items j) (taken.ensures.items j))
-          ∙ zip-swap_remove_at keys c.self.inside.values.items index _ _ c.self.invariant.length ∙ ap (λ ps. swap_remove_at ps index) o.pairs;
+      pairs = grind (arith, columns_steps);
       removed_is = ap Some (c.swap_remove.ensures.value ∙ get_or_default keys index _ _ in_keys ∙ sym c.index.ensures);
     }

@@ -17,14 +17,10 @@ count g c =
     ∙ omega (arith, c.truncate.new.self.ok, c.truncate.ensures.len, c.retain_in_columns-kept.ensures.within, c.as_mut_slice.ensures.len)
 
 pub returns-clause-len : goal.returns-clause-len
-returns-clause-len g c =
-    let o = opened c.self.inside.keys c.self.inside.values c.args.self.now c.self.view_is c.self.invariant in
-    omega (arith, count g c, c.retain_in_columns-kept.ensures.within, c.as_mut_slice.ensures.len, o.keys_len)
+returns-clause-len g c = grind (arith, common_steps, count, opened)
 
 pub returns-clause-hashes : goal.returns-clause-hashes
 returns-clause-hashes g c = grind (arith, common_steps, count, drop, even, keys_of-zip, map, opened, take, take_at)
 
 pub returns-clause-same : goal.returns-clause-same
-returns-clause-same g c =
-    let o = opened c.self.inside.keys c.self.inside.values c.args.self.now c.self.view_is c.self.invariant in
-    λ all. c.retain_in_columns-kept.ensures.same (omega (arith, all, count g c, c.as_mut_slice.ensures.len, o.keys_len))
+returns-clause-same g c = grind (arith, common_steps, count, opened)

@@ -1,14 +1,8 @@
-use Rattle.half_store.proofs.Common.{◌+◌, refl, ◌∙◌, arith, ap, FnReturnsAt, compared_more}
+use Rattle.half_store.proofs.Common.{arith, FnReturnsAt}
 use Rattle.std.proofs.Common.{below_more}
 use Rattle.half_store.proofs.lemmas.counting.{returned_at}
-use Rattle.half_store.proofs.lemmas.vecmap.Search.{compared_again, in_order}
 use Rattle.half_store.proofs.vecmap.search.first_match.Goals as goal
-
-pub returns-clause-first : goal.returns-clause-first
-returns-clause-first g c = c.first_match_by_block.ensures.first
-
-pub returns-clause-work : goal.returns-clause-work
-returns-clause-work g c = rw c.in-ByBlock.is c.first_match_by_block.ensures.work
+use Rattle.half_store.proofs.Common.{common_steps}
 
 pub returns-then-compare-clause-first : goal.returns-then-compare-clause-first
 returns-then-compare-clause-first g c = record {
@@ -22,17 +16,14 @@ returns-then-compare-clause-first g c = record {
 }
 
 pub returns-then-compare-clause-work : goal.returns-then-compare-clause-work
-returns-then-compare-clause-work g c =
-    in_order (compared_again c.loop-index.index (c.loop-index.index + 1) c.args.tally.now c.loop-index.tally _ refl
-    c.loop-index.invariant.work c.if-compare.ensures.counted) refl (omega (arith, c.loop-index-test.true))
+returns-then-compare-clause-work g c = grind (arith, common_steps)
 
 pub loop-index-preserved : goal.loop-index-preserved
 loop-index-preserved g c = record {
   none_so_far = below_more _ _ c.loop-index.invariant.none_so_far
       (returned_at (FnReturnsAt g.F.Fn c.args.matches.now) c.args.keys.now c.loop-index.index c.index-keys-index.result _
       c.index-keys-index.is c.if-compare.ensures.answer);
-  work = compared_again c.loop-index.index (c.loop-index.index + 1) c.args.tally.now c.loop-index.tally _ refl
-      c.loop-index.invariant.work c.if-compare.ensures.counted;
+  work = grind (arith, common_steps);
 }
 
 pub returns-2-clause-first : goal.returns-2-clause-first
@@ -43,4 +34,4 @@ returns-2-clause-first g c = record {
 }
 
 pub returns-2-clause-work : goal.returns-2-clause-work
-returns-2-clause-work g c = in_order (c.loop-index.invariant.work ∙ ap (λ n. compared_more n c.args.tally.now) (omega arith)) refl (omega arith)
+returns-2-clause-work g c = grind (arith, common_steps)

@@ -1,7 +1,8 @@
 use Rattle.half_store.proofs.Common.{arith, ◌-◌, false, FnReturnsAt, ReturnsAt}
 use Rattle.half_store.proofs.lemmas.counting.{returned_at}
-use Rattle.half_store.proofs.lemmas.vecmap.Search.{from_before, compared_again}
+use Rattle.half_store.proofs.lemmas.vecmap.Search.{from_before}
 use Rattle.half_store.proofs.vecmap.search.first_match_between.Goals as goal
+use Rattle.half_store.proofs.Common.{common_steps}
 
 pub loop-index-preserved-then-compare : goal.loop-index-preserved-then-compare
 loop-index-preserved-then-compare g c = record {
@@ -11,8 +12,7 @@ loop-index-preserved-then-compare g c = record {
   at = λ _. returned_at (FnReturnsAt g.F.Fn c.args.matches.now) c.args.keys.now (c.loop-index.index - 1) c.index-keys-index.result _
       c.index-keys-index.is c.if-compare.ensures.answer;
   none_before = λ earlier from before. absurd (omega (arith, from, before));
-  work = compared_again (c.args.end - c.loop-index.index) _ _ c.loop-index.tally _ (omega (arith, c.loop-index.auto.index, c.loop-index-test.true))
-      c.loop-index.invariant.work c.if-compare.ensures.counted;
+  work = grind (arith, common_steps);
 }
 
 pub loop-index-preserved : goal.loop-index-preserved
@@ -25,8 +25,7 @@ loop-index-preserved g c = record {
       c.loop-index.found (omega (arith, c.loop-index-test.true)) c.loop-index.invariant.none_before
       (returned_at (FnReturnsAt g.F.Fn c.args.matches.now) c.args.keys.now (c.loop-index.index - 1) c.index-keys-index.result _
       c.index-keys-index.is c.if-compare.ensures.answer);
-  work = compared_again (c.args.end - c.loop-index.index) _ _ c.loop-index.tally _ (omega (arith, c.loop-index.auto.index, c.loop-index-test.true))
-      c.loop-index.invariant.work c.if-compare.ensures.counted;
+  work = grind (arith, common_steps);
 }
 
 pub returns-clause-none_before : goal.returns-clause-none_before

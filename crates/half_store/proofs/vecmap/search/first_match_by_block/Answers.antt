@@ -1,6 +1,7 @@
 use Rattle.half_store.proofs.Common.{◌+◌, arith, false, FnReturnsAt, ReturnsAt}
-use Rattle.half_store.proofs.lemmas.vecmap.Search.{below_and_from, by_block, compared_all, compared_behind, compared_none}
+use Rattle.half_store.proofs.lemmas.vecmap.Search.{below_and_from}
 use Rattle.half_store.proofs.vecmap.search.first_match_by_block.Goals as goal
+use Rattle.half_store.proofs.Common.{common_steps}
 
 pub returns-then-found-keys-clause-first : goal.returns-then-found-keys-clause-first
 returns-then-found-keys-clause-first g c =
@@ -36,8 +37,7 @@ loop-start-preserved g c = record {
       (c.loop-start.start + c.min.result) c.loop-start.invariant.none_so_far
       (λ k from within. c.first_match_between-found-in-loop-start.ensures.none_before k from (omega (arith, within, c.if-found-end.false)));
   after_first = omega (arith, c.loop-start.invariant.after_first);
-  work = compared_all 16 c.loop-start.start c.min.result _ _ _ c.loop-start.invariant.after_first c.loop-start.invariant.work
-      c.first_match_between-found-in-loop-start.ensures.work;
+  work = grind (arith, common_steps);
 }
 
 pub returns-clause-first : goal.returns-clause-first
@@ -63,18 +63,11 @@ loop-start-init g c =
       after_first = omega arith;
       within = omega (arith, c.if-keys-le-BLOCK.false);
       none_so_far = λ earlier before. told.none_before earlier (omega arith) (omega (arith, before, c.if-found-lt-BLOCK.false));
-      work = compared_none _;
+      work = grind (arith, common_steps);
     }
 
 pub returns-then-found-end-clause-work : goal.returns-then-found-end-clause-work
-returns-then-found-end-clause-work g c =
-    let l = c.loop-start.invariant in
-    let all = compared_all 16 c.loop-start.start c.min.result _ _ _ l.after_first l.work c.first_match_between-found-in-loop-start.ensures.work in
-    by_block (compared_behind 16 _ _ _ _ (omega (arith, l.after_first)) c.first_match_between-found-2.ensures.work all)
-    (omega (arith, c.if-found-end.true)) (omega (arith, c.min.ensures, c.loop-start-test.true))
+returns-then-found-end-clause-work g c = grind (arith, common_steps)
 
 pub returns-clause-work : goal.returns-clause-work
-returns-clause-work g c =
-    let l = c.loop-start.invariant in
-    by_block (compared_behind 16 _ _ _ _ l.after_first c.first_match_between-found-2.ensures.work l.work)
-    (omega (arith, c.loop-start-test.false)) l.within
+returns-clause-work g c = grind (arith, common_steps)
