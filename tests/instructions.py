@@ -49,34 +49,24 @@ def count(program, row, size):
         return own(pathlib.Path(folder, "out.2").read_text(), program) / int(ran.stdout.split()[0])
 
 
-def lines(words):
-    """Each line of the table that the words pick: what is counted, and the numbers."""
-    for line in TABLE.read_text().splitlines():
-        *row, small, middle, large = line.split()
-        if not words or set(words) & set(row):
-            yield " ".join(row), [float(small), float(middle), float(large)]
-
-
-def counted(program, rows):
-    """The rows, each with what is counted now, as it comes. As many programs run at once as there are processors."""
-    with concurrent.futures.ThreadPoolExecutor(os.cpu_count()) as pool:
-        new = [[pool.submit(count, program, row, size) for size in SIZES] for row, _ in rows]
-        for (row, old), numbers in zip(rows, new):
-            yield row, old, [it.result() for it in numbers]
-
-
 def main():
-    words = [it for it in sys.argv[1:] if it != "--write"]
+    words = {*sys.argv[1:]} - {"--write"}
     if not shutil.which("valgrind"):
         return print("There is no valgrind, so no instructions are counted.\n0 passed, 0 failed")
-    told, written = [], ""
-    for row, old, new in counted(tools.program("half_bench"), [*lines(words)]):
-        differs = any(abs(after - before) > APART * before + ROUNDED for before, after in zip(old, new))
-        said = ", differs" * differs + ", grows" * (new[2] > GROWTH * new[1])
-        told.append(row + said if said else None)
-        three = (f"{before:10.2f} {after:10.2f} {after / before:.3f}" for before, after in zip(old, new))
-        print(f"{row:50}", *three, said[1:], flush=True)
-        written += f"{row:50}" + "".join(f"{it:12.2f}" for it in new) + "\n"
+    rows = [line.rsplit(maxsplit=3) for line in TABLE.read_text().splitlines()]
+    rows = [row for row in rows if not words or words & {*row[0].split()}]
+    program, told, written = tools.program("half_bench"), [], ""
+    # As many programs run at once as there are processors.
+    with concurrent.futures.ThreadPoolExecutor(os.cpu_count()) as pool:
+        counts = [[pool.submit(count, program, row, size) for size in SIZES] for row, *_ in rows]
+        for (row, *stored), counting in zip(rows, counts):
+            old, new = [float(it) for it in stored], [it.result() for it in counting]
+            differs = any(abs(after - before) > APART * before + ROUNDED for before, after in zip(old, new))
+            said = ", differs" * differs + ", grows" * (new[2] > GROWTH * new[1])
+            told.append(row + said if said else None)
+            three = (f"{before:10.2f} {after:10.2f} {after / before:.3f}" for before, after in zip(old, new))
+            print(f"{row:50}", *three, said[1:], flush=True)
+            written += f"{row:50}" + "".join(f"{it:12.2f}" for it in new) + "\n"
     if sys.argv[1:] == ["--write"]:
         TABLE.write_text(written)
     tools.end(told)
