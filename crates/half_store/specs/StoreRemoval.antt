@@ -1,9 +1,9 @@
 -- What a removal does to a store, in order or by the last pair, and to the buckets before pairs are shifted back.
-use Rattle.std.specs.Prelude.{◌≡◌, ℕ, ◌+◌, ◌-◌, ◌<◌, false, List, length, slice_get, slice_index, slice_set, Some, suc, ◌==◌, nat_lt, if◌then◌else◌}
+use Rattle.std.specs.Prelude.{◌≡◌, ℕ, ◌-◌, false, List, length, slice_get, slice_index, slice_set, Some, suc, ◌==◌, nat_lt, if◌then◌else◌}
 use Rattle.half_store.specs.PairLists.{swap_remove_at}
-use Rattle.half_store.specs.Work.{ReadsWithin, reads_up_to, Work}
+use Rattle.half_store.specs.Work.{ReadsWithin, Work}
 use Rattle.half_store.specs.Slots.{slots_from}
-use Rattle.half_store.specs.Reach.{reach, probe_distance}
+use Rattle.half_store.specs.Reach.{probe_distance}
 use Rattle.half_store.specs.Store.{StoreState, SameFormAndCapacity}
 use Rattle.half_store.specs.Table.{IsOtherEmpty}
 use Rattle.std.specs.List.{remove}
