@@ -26,7 +26,8 @@ module _ {K X Y : Type 0} (h : X → Y) where
 
   pub put_over : (eq : K → K → Bool) (ps : List (K × X)) (k : K) (v : X) → map over (put eq ps k v) ≡ put eq (map over ps) k (h v)
   put_over eq ps k v =
-      grind (arith, common_steps, set_over (eq k) ps v, map-append over ps ((k, v) ∷ []), lookup-map_values h (eq k) ps, is_some_map)
+      let held = lookup-map_values h (eq k) ps in
+      grind (arith, common_steps, held, set_over (eq k) ps v, map-append over ps ((k, v) ∷ []), is_some_map)
 
 -- the members of an object, as JSON
 abbrev pub seen : List (String Global × Value) → List (List ℕ × Json)

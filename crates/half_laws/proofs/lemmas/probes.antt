@@ -175,4 +175,5 @@ stops_law hashes m hash passed few =
     let is : reach hashes m hash ≡ suc (loaded_run hashes m (m - 1) (home m hash)) = reach-some hashes m hash (omega arith) in
     (λ e. stops_then hashes m hash passed few (omega arith), λ p. let r = stops_back hashes m hash passed few p in omega arith)
 
-pub ruleset probe_laws = (reach-permutation, reach-none, nothing_held_law, one_bucket_law, shared_home_law, short_law, once_round_law)
+pub ruleset probe_laws =
+    (reach-permutation, reach-none, nothing_held_law, one_bucket_law, shared_home_law, short_law, once_round_law)

@@ -94,7 +94,8 @@ module _ {K V S : Type 0} (hash : S → K → ℕ) where
     crowded_unchecked_law m k granted before after passed s grew l = grind (arith, common_steps, crowded_probe_law, grown_fits)
 
     pub crowded_insertion_law : CrowdedInsertionLaw V limit eq hash
-    crowded_insertion_law m k granted before after passed s none costs l = grind (arith, common_steps, crowded_probe_law, is_some, looks_most, switched_fits)
+    crowded_insertion_law m k granted before after passed s none costs l =
+        grind (arith, common_steps, crowded_probe_law, is_some, looks_most, switched_fits)
 
   keys-permutation : (xs ys : List (K × V)) → IsPermutation xs ys → IsPermutation (keys_of xs) (keys_of ys)
   keys-permutation xs ys p = IsPermutation-map (λ (e : K × V). e.0) xs ys p

@@ -22,7 +22,8 @@ module _ (weight : ℕ → ℕ) (m n : ℕ) where
   knuth-step =
       let term : ℕ → ℕ = λ k. weight k * falling (suc n) k * m ^ (suc n + 1 - k) in
       let below : ℕ → ℕ = λ k. weight (suc k) * falling n k * m ^ (n + 1 - k) in
-      let first : term 0 ≡ weight 0 * m ^ suc (suc n) = ap (λ e. weight 0 * 1 * m ^ e) {y = suc (suc n)} (omega arith) ∙ grind arith in
+      let first : term 0 ≡ weight 0 * m ^ suc (suc n) =
+      ap (λ e. weight 0 * 1 * m ^ e) {y = suc (suc n)} (omega arith) ∙ grind arith in
       let others : sum_below (suc n) (λ k. term (suc k)) ≡ suc n * sum_below (suc n) below =
       below-same (suc n) (λ k. term (suc k)) (λ k. suc n * below k) (λ k l. term-step k) ∙ below-times (suc n) (suc n) below in
       ap (λ count. sum_below count term) (add-one (suc n)) ∙ below-first (suc n) term
@@ -57,7 +58,8 @@ total d zero m is =
     let one : plain m 0 ≡ m = knuth-zero (λ k. 1) m 0 ∙ omega arith in
     let other : knuth m 0 ≡ m = knuth-zero (λ k. k + 1) m 0 ∙ omega arith in
     let square = pow-two m in
-    (λ i. d * (m ^ 2 + 1 * one i) + 1 * other i) ∙ grind (arith, square, ap (λ s. s * m) is, ap (λ s. s * m ^ 2) is) ∙ sym (pow-succ' m 2)
+    (λ i. d * (m ^ 2 + 1 * one i) + 1 * other i)
+    ∙ grind (arith, square, ap (λ s. s * m) is, ap (λ s. s * m ^ 2) is) ∙ sym (pow-succ' m 2)
 total d (suc n) m is =
     let before = total (suc d) n m (omega arith) in
     let y : ℕ = m ^ suc (suc n) + suc n * plain m n in

@@ -45,7 +45,8 @@ module _ (m q : ℕ) where
   thin zero p a s f blind bound = rw (pow-zero (s + q)) (rw (pow-zero s) at (bound 0 (omega arith)))
   thin (suc n) p a s f blind bound =
       let more = mul-le-mul_left q (thin n p a s f blind (λ l small. bound l (omega arith))) in
-      let others = thin n (p * q) (a * s) s (inner f) (inner-blind f blind) (λ l small. inner-step p a s l f (bound (suc l) (omega arith))) in
+      let others = thin n (p * q) (a * s) s (inner f) (inner-blind f blind)
+      (λ l small. inner-step p a s l f (bound (suc l) (omega arith))) in
       rw (split n f blind, pow-succ' q n, pow-succ' (s + q) n) (grind arith)
 
 -- how many entries are below a number

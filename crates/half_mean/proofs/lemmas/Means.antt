@@ -82,7 +82,8 @@ mean_at_load t share m n few load =
     let some : 0 < (m - n) * (m - n) = mul-pos (omega arith) (omega arith) in
     let mean = mean_of_homes m n few in
     let more = mul-le-mul_right (m ^ (n + 1)) (square-le t (m - n) m load) in
-    of_homes share m n (1 + t * t) 2 (omega arith) (le_of_mul-le-mul_right {k = (m - n) ^ 2} (grind arith) (omega (arith, pow-two (m - n))))
+    of_homes share m n (1 + t * t) 2 (omega arith)
+    (le_of_mul-le-mul_right {k = (m - n) ^ 2} (grind arith) (omega (arith, pow-two (m - n))))
 
 -- a bucket count that hashes of some bits can have as homes divides their number
 pub bucket_share : (bits m : ℕ) → 0 < m → IsBucketCount m → m ≤ 2 ^ bits → (share : ℕ) × (2 ^ bits ≡ share * m)

@@ -23,7 +23,8 @@ module _ (q d : ℕ) where
   rising n some =
       let y : ℕ = n * (q * suc n + d) in
       let line = flat n y d (n * suc n * q) (grind arith) in
-      let small = rw (around n, mul-pow (suc n) (q * n + d) n, ← pow-succ' y n, mul-pow n (q * suc n + d) (suc n), pow-succ' n n) at line in
+      let small =
+      rw (around n, mul-pow (suc n) (q * n + d) n, ← pow-succ' y n, mul-pow n (q * suc n + d) (suc n), pow-succ' n n) at line in
       le_of_mul-le-mul_left {k = n} (rw (pow-succ' (suc n) n) (grind arith)) some
 
   -- `n` pairs in `n` buckets weigh on average at least what they do one in each

@@ -62,7 +62,8 @@ module _ {K V S : Type 0} (limit : ℕ) (eq : K → K → Bool) where
 
   leaves_changed : (old new : State K V S) (command : Command K V) → is_reserve command ≡ false → Leaves limit eq old command new
       → Changes old command new
-  leaves_changed old new command none leaves = grind (arith, common_steps, held_changes, keeps_all, len_taken, puts_any, puts_new)
+  leaves_changed old new command none leaves =
+      grind (arith, common_steps, held_changes, keeps_all, len_taken, puts_any, puts_new)
 
   changes_by : (old new : State K V S) (command : Command K V) (reply : Reply K V) → Executes limit eq old command reply new
       → is_reserve command ≡ false → Changes old command new

@@ -27,7 +27,8 @@ module _ {K V S : Type 0} (limit : ℕ) (eq : K → K → Bool) where
       → refusal_in s.reply ≡ refusal_in t.reply
       → (is_shrink s.command && says_vec s.reply) ≡ (is_shrink t.command && says_vec t.reply)
       → (s.reply ≡ t.reply) × IsAlike s.after t.after
-  step_alike s t s_step t_step alike command refusal form = grind (arith, common_steps, pairs_left, form_of_step, not, unwrap_or)
+  step_alike s t s_step t_step alike command refusal form =
+      grind (arith, common_steps, pairs_left, form_of_step, not, unwrap_or)
 
   same_alike : (a b c d : State K V S) → IsAlike a b → c ≡ a → d ≡ b → IsAlike c d
   same_alike a b c d alike left right = record { form = cc; pairs = cc }

@@ -34,9 +34,10 @@ returns-in_ok-end_array-in-List t c =
     let xs = c.deref-item-items.result.now in
     let step : c.args.depth ≡ inner + 1 = search rules in
     let all : take l.item-index xs ≡ vs.items = take_all l.item-index xs (omega arith) ∙ c.deref-item-items.ensures.value in
+    let written = l.invariant.0 ∙ ap (λ ys. start ++ flat_map value_tokens ys) all in
     let nested : items_depth (items_of (map json_of vs.items)) ≤ inner = rw (← all) l.invariant.2 in
     record {
-      tokens = rw c.in-List.is (list_tokens _ start _ _ vs (search rules) (l.invariant.0 ∙ ap (λ ys. start ++ flat_map value_tokens ys) all) (search rules));
+      tokens = rw c.in-List.is (list_tokens _ start _ _ vs (search rules) written (search rules));
       before = search rules;
       nests = rw (c.in-List.is, json_of-List vs) (omega (arith, nested, step));
       refused = search rules;
@@ -72,9 +73,10 @@ returns-in_ok-end_object-in-Object t c =
     let given : pairs_left c.into_iter-name-iterator.result ≡ m.pairs = search rules in
     let all : shown l.yielded ≡ m.pairs =
     sym (append-nil (shown l.yielded)) ∙ ap (λ ms. shown l.yielded ++ ms) (sym c.in-None.ensures.steps.0) ∙ l.invariant.5 ∙ given in
+    let written = l.invariant.2 ∙ ap (λ ms. start ++ flat_map member_tokens ms) all in
     let nested : members_depth (members_of (seen m.pairs)) ≤ inner = rw (← all) l.invariant.4 in
     record {
-      tokens = rw c.in-Object.is (object_tokens _ start _ _ m (search rules) (l.invariant.2 ∙ ap (λ ms. start ++ flat_map member_tokens ms) all) (search rules));
+      tokens = rw c.in-Object.is (object_tokens _ start _ _ m (search rules) written (search rules));
       before = search rules;
       nests = rw (c.in-Object.is, json_of-Object m) (omega (arith, nested, step));
       refused = search rules;
