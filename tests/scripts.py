@@ -132,6 +132,7 @@ def judge(program, part):
     for index, call in enumerate(part):
         found = [(said, printed[index] if index < len(printed) else "nothing") for said, printed in plays]
         told += [judge_call(call, found)] if call.wanted else []
+    told += [] if told else [f"{part[0].place}: no line of this part is wanted"]
     for said, printed in plays:
         if len(printed) != len(part):
             ends = printed[-1] if len(printed) > len(part) else f"{len(printed)} lines"
