@@ -3,10 +3,8 @@
 //! value wins, at the place of the first.
 #![tactic(auto)]
 
-mod failure;
-
-use crate::failure::Failure;
-use json_value::Value;
+use anyhow::{Result, anyhow};
+use json_value::{Error, Value};
 use std::alloc::Global;
 use std::io::Read;
 use std::process::ExitCode;
@@ -16,21 +14,21 @@ use std::{env, str};
 fn main(rt: HostRuntime) -> ExitCode {
     match print_value(&rt) {
         Ok(()) => ExitCode::SUCCESS,
-        Err(failure) => {
-            let _ = eprintln!(rt; "json_at: {failure}");
+        Err(error) => {
+            let _ = eprintln!(rt; "json_at: {error}");
             ExitCode::FAILURE
         }
     }
 }
 
 // Reads all of standard input, and prints the value at the path.
-fn print_value(rt: &(impl Input + Print + AllocGlobal + Env)) -> Result<(), Failure> {
+fn print_value(rt: &(impl Input + Print + AllocGlobal + Env)) -> Result<()> {
     let path = env::args(rt)?.nth(1);
     let mut bytes = Vec::new(rt.alloc());
     rt.reader().read_to_end(&mut bytes)?;
     let text = str::from_utf8(bytes.as_slice())
         .ok()
-        .ok_or(Failure::NotText)?;
+        .ok_or(anyhow!("the input is no UTF-8 text"))?;
     let found = match &path {
         Some(path) => value_at(rt.alloc(), text, path.as_str())?,
         None => value_at(rt.alloc(), text, "")?,
@@ -40,8 +38,8 @@ fn print_value(rt: &(impl Input + Print + AllocGlobal + Env)) -> Result<(), Fail
 }
 
 // The text of the value that a path leads to.
-fn value_at(alloc: Global, text: &str, path: &str) -> Result<String, Failure> {
+fn value_at(alloc: Global, text: &str, path: &str) -> Result<String> {
     let document = Value::parse(alloc, text)?;
-    let found = document.pointer(path).ok_or(Failure::NotThere)?;
+    let found = document.pointer(path).ok_or(Error::NotThere)?;
     Ok(found.to_string(alloc)?)
 }

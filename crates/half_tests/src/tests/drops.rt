@@ -1,6 +1,6 @@
 //! In what order keys and values are dropped, which no contract says.
 
-use super::items::{Item, Told};
+use super::items::{Item, Items, Told, filled};
 use half_set::HashSet;
 use half_uses::bounded_cache::BoundedCache;
 use half_uses::cache::Cache;
@@ -10,17 +10,6 @@ use std::alloc::Global;
 use std::hash::Hash;
 use std::test::Fail;
 use test_support::asserts::{assert_same, assert_same_at};
-
-type Map<'a, const N: usize> = SizedHashMap<Item<'a>, Item<'a>, DefaultHashBuilder, N>;
-
-// The keys 1, 2 and 3 with the values 4, 5 and 6.
-fn filled<const N: usize>(alloc: Global, told: &Told) -> Result<Map<'_, N>, Refusal> {
-    let mut map = Map::<'_, N>::new(alloc);
-    for key in [1u64, 2, 3] {
-        map.insert(Item::new(key, told), Item::new(key + 3, told))?;
-    }
-    Ok(map)
-}
 
 // All at once: the keys, and then the values. Taken out one by one: each key with its value.
 fn whole_maps<const N: usize>(alloc: Global) -> Result<(), Fail> {
@@ -60,7 +49,7 @@ fn drained<const N: usize>(alloc: Global, taken: usize) -> Result<u64, Fail> {
 
 // Gives the key 1 the value 7.
 fn overwrite<'a, const N: usize>(
-    map: &mut Map<'a, N>,
+    map: &mut Items<'a, N>,
     told: &'a Told,
 ) -> Result<Option<Item<'a>>, Refusal> {
     Ok(map.insert(Item::equal_to(1, 9, told), Item::new(7, told))?)

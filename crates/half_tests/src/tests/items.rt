@@ -4,7 +4,8 @@ ghost use Rattle.std.specs.Hash as fed;
 ghost use Rattle.std.specs.Cmp.Rules.{comparing, hashing};
 ghost use Rattle.std.proofs.Common.{rules};
 
-use std::alloc::AllocError;
+use halfbrown::{DefaultHashBuilder, Refusal, SizedHashMap};
+use std::alloc::{AllocError, Global};
 use std::cell::Cell;
 use std::hash::{Hash, Hasher};
 
@@ -39,7 +40,9 @@ impl<'a> Item<'a> {
         Item::equal_to(digit, digit, told)
     }
 
-    pub fn equal_to(id: u64, digit: u64, told: &'a Told) -> Item<'a> {
+    pub fn equal_to(id: u64, digit: u64, told: &'a Told) -> Item<'a>
+        ensures { result.id ≡ id }
+    {
         told.living.set(told.living.get().saturating_add(1));
         Item { id, digit, told }
     }
@@ -63,14 +66,7 @@ impl Clone for Item<'_> {
             return Err(AllocError);
         }
         self.told.granted.set(granted - 1);
-        self.told
-            .living
-            .set(self.told.living.get().saturating_add(1));
-        Ok(Item {
-            id: self.id,
-            digit: self.digit,
-            told: self.told,
-        })
+        Ok(Item::equal_to(self.id, self.digit, self.told))
     }
 }
 
@@ -96,4 +92,15 @@ impl Hash for Item<'_> {
     fn hash<H: Hasher>(&self, state: &mut H) {
         self.id.hash(state);
     }
+}
+
+pub type Items<'a, const N: usize> = SizedHashMap<Item<'a>, Item<'a>, DefaultHashBuilder, N>;
+
+// The keys 1, 2 and 3 with the values 4, 5 and 6.
+pub fn filled<const N: usize>(alloc: Global, told: &Told) -> Result<Items<'_, N>, Refusal> {
+    let mut map = Items::<'_, N>::new(alloc);
+    for key in [1u64, 2, 3] {
+        map.insert(Item::new(key, told), Item::new(key + 3, told))?;
+    }
+    Ok(map)
 }

@@ -73,7 +73,7 @@ fn assert_written(alloc: Global, value: &Value, wanted: &str) -> Result<(), Fail
 const POINTED: &str =
     r#"{"foo":["bar","baz"],"":0,"a/b":1,"c%d":2,"e^f":3,"g|h":4,"i\\j":5,"k\"l":6," ":7,"m~n":8}"#;
 
-const POINTERS: [(&str, Option<&str>); 26] = [
+const POINTERS: [(&str, Option<&str>); 27] = [
     ("", Some(POINTED)),
     ("/foo", Some(r#"["bar","baz"]"#)),
     ("/foo/0", Some(r#""bar""#)),
@@ -87,6 +87,7 @@ const POINTERS: [(&str, Option<&str>); 26] = [
     ("/ ", Some("7")),
     ("/m~0n", Some("8")),
     // A slash always begins a step, and a ~ stands for nothing by itself.
+    ("foo", None),
     ("/a/b", None),
     ("/m~n", None),
     ("/m~", None),
@@ -110,90 +111,19 @@ fn a_path_is_a_json_pointer(rt: HostRuntime) -> Result<(), Fail> {
 }
 
 #[test]
-fn members_are_compared_in_any_order(rt: HostRuntime) -> Result<(), Fail> {
-    for (text, other, wanted) in [
-        (r#"{"a": 1, "b": [2]}"#, r#"{"b": [2], "a": 1}"#, true),
-        (r#"{"a": 1}"#, r#"{"a": 1, "b": 2}"#, false),
-        ("[1, 2]", "[2, 1]", false),
-    ] {
-        let is_same = Value::parse(rt.alloc(), text)? == Value::parse(rt.alloc(), other)?;
-        assert_same_at((text, other), is_same, wanted, "equality")?;
-    }
-    Ok(())
-}
-
-#[test]
-fn members_are_changed_and_merged(rt: HostRuntime) -> Result<(), Fail> {
-    let mut value = Value::parse(rt.alloc(), r#"{"a": 1, "b": {"c": 2}}"#)?;
-    change_members(rt.alloc(), &mut value)?;
-    merge_members(rt.alloc(), &mut value)?;
-    remove_member(rt.alloc(), &mut value)
+fn members_are_set_and_merged(rt: HostRuntime) -> Result<(), Fail> {
+    let alloc = rt.alloc();
+    let mut value = Value::parse(alloc, r#"{"a": 1}"#)?;
+    change_members(alloc, &mut value)?;
+    value.merge(Value::parse(alloc, r#"{"c": [], "a": null}"#)?)?;
+    assert_written(alloc, &value, r#"{"a":null,"b":true,"c":[]}"#)
 }
 
 fn change_members(alloc: Global, value: &mut Value) -> Result<(), Fail> {
-    value.set_at("/b/c", Value::Bool(true))?;
-    let absent = replace_member(value, "c", Value::Null);
-    assert_same(absent, None, "no member")?;
-    let one = Value::parse(alloc, "1")?;
-    let before = replace_member(value, "a", Value::Bool(false));
-    assert_same(before, Some(one), "the value before")
-}
-
-fn merge_members(alloc: Global, value: &mut Value) -> Result<(), Fail> {
-    value.merge(Value::parse(alloc, r#"{"d": [], "a": null}"#)?)?;
-    assert_written(alloc, value, r#"{"a":null,"b":{"c":true},"d":[]}"#)?;
-    let refused = value.merge(Value::Null).err();
-    assert_same(refused, Some(Error::NoObject), "no object")
-}
-
-fn remove_member(alloc: Global, value: &mut Value) -> Result<(), Fail> {
-    let removed = (value.remove("a"), value.remove("a"));
-    assert_same(removed, (Some(Value::Null), None), "removed once")?;
-    assert_written(alloc, value, r#"{"b":{"c":true},"d":[]}"#)
-}
-
-// Sets what the path leads to. The value before has this text.
-fn assert_set(
-    alloc: Global,
-    document: &mut Value,
-    path: &str,
-    value: Value,
-    before: &str,
-) -> Result<(), Fail> {
-    let had = document.set_at(path, value)?;
-    assert_written(alloc, &had, before)
-}
-
-fn set_each_to_null(alloc: Global, value: &mut Value) -> Result<(), Fail> {
-    for (path, before) in [
-        ("/a/1/b", "2"),
-        ("/a/0", "1"),
-        ("/m~0n", "[]"),
-        ("/x~1y", "3"),
-    ] {
-        assert_set(alloc, value, path, Value::Null, before)?;
-    }
-    Ok(())
-}
-
-fn assert_no_value_is_there(value: &mut Value) -> Result<(), Fail> {
-    for path in ["/a/2", "/a/00", "/c", "a", "/m~n", "/a/1/b/0", "/x~0y"] {
-        let refused = value.set_at(path, Value::Null).err();
-        assert_same_at(path, refused, Some(Error::NotThere), "no value")?;
-    }
-    Ok(())
-}
-
-#[test]
-fn what_a_path_leads_to_is_set(rt: HostRuntime) -> Result<(), Fail> {
-    let alloc = rt.alloc();
-    let mut value = Value::parse(alloc, r#"{"a":[1,{"b":2}],"m~n":[],"x/y":3}"#)?;
-    set_each_to_null(alloc, &mut value)?;
-    assert_no_value_is_there(&mut value)?;
-    let wanted = r#"{"a":[null,{"b":null}],"m~n":null,"x/y":null}"#;
-    assert_written(alloc, &value, wanted)?;
-    assert_set(alloc, &mut value, "", Value::Bool(true), wanted)?;
-    assert_same(value, Value::Bool(true), "the whole")
+    let added = value.set(String::from_str(alloc, "b")?, Value::Null)?;
+    assert_same(added, None, "it is new")?;
+    let before = replace_member(value, "b", Value::Bool(true));
+    assert_same(before, Some(Value::Null), "the value before")
 }
 
 #[test]
@@ -203,36 +133,4 @@ fn other_paths_lead_where_they_led(rt: HostRuntime) -> Result<(), Fail> {
     mark_first_user(&mut value)?;
     mark_member(alloc, &mut value, "limits")?;
     assert_written(alloc, &value, r#"{"users":[true,2],"limits":true}"#)
-}
-
-// A list of 30,000 items, which takes 300 KB, and 999 more members.
-fn large_text(alloc: Global) -> Result<String, Error> {
-    let mut text = String::from_str(alloc, r#"{"items":[0"#)?;
-    text.push_str(",123456789".repeat(alloc, 29_999)?.as_str())?;
-    text.push_str("]")?;
-    for number in 1..1000u64 {
-        text.push_str(format!(in alloc; ",\"m{number}\":{number}")?.as_str())?;
-    }
-    text.push_str("}")?;
-    Ok(text)
-}
-
-// No contract says that memory is found: here none gives up for the size, and a held member needs none.
-#[test]
-fn a_large_text_is_read_written_and_changed(rt: HostRuntime) -> Result<(), Fail> {
-    let alloc = rt.alloc();
-    let text = large_text(alloc)?;
-    let mut value = Value::parse(alloc, text.as_str())?;
-    assert_written(alloc, &value, text.as_str())?;
-    assert_set(alloc, &mut value, "/items/29999", Value::Null, "123456789")?;
-    set_members(alloc, &mut value)
-}
-
-fn set_members(alloc: Global, value: &mut Value) -> Result<(), Fail> {
-    for number in 1..1000u64 {
-        let before = value.set(format!(in alloc; "m{number}")?, Value::Null)?;
-        let wanted = Value::Number(format!(in alloc; "{number}")?);
-        assert_same(before, Some(wanted), "its number")?;
-    }
-    Ok(())
 }

@@ -1,38 +1,26 @@
 //! A clone of a map whose keys or values refuse to be cloned: it is refused, the clones made by then are dropped, and the map
 //! stays as it was.
 
-use super::items::{Item, Told};
+use super::items::{Item, Told, filled};
 use halfbrown::{DefaultHashBuilder, Refusal, SizedHashMap};
 use std::alloc::{AllocError, Global};
 use std::test::Fail;
 use test_support::asserts::{assert_same, assert_same_at};
 
-const HELD: [u64; 3] = [24, 8, 16];
-
-type Map<'a, const N: usize> = SizedHashMap<Item<'a>, Item<'a>, DefaultHashBuilder, N>;
-
 type Values<'a, const N: usize> = SizedHashMap<u64, Item<'a>, DefaultHashBuilder, N>;
-
-fn fill<'a, const N: usize>(map: &mut Map<'a, N>, told: &'a Told) -> Result<(), Refusal> {
-    for id in HELD {
-        map.insert(Item::new(id, told), Item::new(id, told))?;
-    }
-    Ok(())
-}
 
 // Six clones are needed. Where fewer are granted the map stays as it was, and no clone is left.
 fn clones_refused<const N: usize>(alloc: Global) -> Result<(), Fail> {
     let told = Told::new();
-    let mut map = Map::<'_, N>::new(alloc);
-    fill(&mut map, &told)?;
+    let map = filled::<N>(alloc, &told)?;
     for granted in 0..6u64 {
         told.granted.set(granted);
         let refused = map.clone().err();
         assert_same_at(granted, refused, Some(Refusal::Memory), "the refusal")?;
         assert_same_at(granted, told.living.get(), 6, "no clone is left")?;
         assert_same_at(granted, told.granted.get(), 0, "as many were made")?;
-        let first = map.get(&Item::new(HELD[0], &told)).map(|value| value.id);
-        assert_same_at(granted, (map.len(), first), (3, Some(HELD[0])), "as before")?;
+        let first = map.get(&Item::new(1, &told)).map(|value| value.id);
+        assert_same_at(granted, (map.len(), first), (3, Some(4)), "as before")?;
     }
     told.granted.set(6);
     let copy = map.clone()?;

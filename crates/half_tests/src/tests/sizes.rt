@@ -143,10 +143,11 @@ fn intern_texts(alloc: Global, names: &mut Interner) -> Result<(), Fail> {
     Ok(())
 }
 
-// In each scope each name means the number of the scope.
+// In each scope each name means the number of the scope, and one more name means 7 in all of them.
 #[test]
 fn twenty_scopes_of_twenty_names(rt: HostRuntime) -> Result<(), Fail> {
     let mut scopes = Scopes::<u64, u64>::new(rt.alloc());
+    scopes.declare(20, 7)?;
     for scope in 0..20u64 {
         enter_and_declare(&mut scopes, scope)?;
     }
@@ -164,11 +165,12 @@ fn enter_and_declare(scopes: &mut Scopes<u64, u64>, scope: u64) -> Result<(), Fa
 
 fn leave_each(scopes: &mut Scopes<u64, u64>) -> Result<(), Fail> {
     for left in 0..20u64 {
-        let meaning = scopes.resolve(&19).copied();
-        let seen = (meaning, scopes.leave());
-        assert_same(seen, (Some(19 - left), true), "of the innermost")?;
+        let meanings = [19, 20].map(|name: u64| scopes.resolve(&name).copied());
+        let seen = (meanings, scopes.leave());
+        let expected = ([Some(19 - left), Some(7)], true);
+        assert_same(seen, expected, "of the innermost, and of the outermost")?;
     }
-    Ok(())
+    assert_same(scopes.leave(), false, "the outermost is not left")
 }
 
 // A thousand words, each 520 times: 2,890 digits and as many spaces as words are 3,890 bytes.
