@@ -10,7 +10,6 @@ Words pick rows of times: operations, `u64`, `String` and sizes; `memory` and `r
 
 import collections
 import itertools
-import math
 import os
 import pathlib
 import platform
@@ -24,6 +23,7 @@ import time
 
 import picture
 import tools
+from picture import BUCKETS
 
 MAPS = ["halfbrown", "std", "indexmap"]
 # The types of keys, each with the most pairs: texts in maps of a million pairs would take most of the time.
@@ -31,76 +31,48 @@ KEYS = {"u64": 1_000_000, "String": 100_000}
 SIZES = [4, 16, 33, 100, 1_000, 100_000, 1_000_000]
 OPERATIONS = "hit miss raw_hit build remove churn entry_few entry_many iter clone retain drain".split()
 OTHERS = ["memory", "reads"]
-# Pairs in all maps whose memory is measured.
-PAIRS = 1_000_000
-# Pairs and buckets of a full table, whose probes are counted.
-FULL, BUCKETS = 3 << 16, picture.BUCKETS
-
-Place = collections.namedtuple("Place", "operation keys pairs")
+# Pairs in all maps whose memory is measured, and in a full table, whose probes are counted.
+PAIRS, FULL = 1_000_000, BUCKETS * 3 // 4
 # In how many orders `--against` links the functions of each program: the order by itself changes a time by .8 to 1.25.
 ORDERS = 6
-# Times of this map, and of std's, by place, and bytes by keys and pairs.
-DRAWN = {}
 
 
-def print_table(heads, rows, texts=1):
-    """Prints a table, whose first columns are texts and the others numbers."""
-    print("| " + " | ".join(heads) + " |")
-    print("|" + "---|" * texts + "--:|" * (len(heads) - texts))
-    for row in rows:
-        print("| " + " | ".join(str(cell) for cell in row) + " |", flush=True)
+def print_table(heads, rows):
+    for row in itertools.chain([heads], rows):
+        print(*(f"{cell!s:>{max(len(head), 10)}}" for head, cell in zip(heads, row)), flush=True)
 
 
 def places(words):
-    """The rows that the words pick."""
+    """The rows that the words pick: an operation, a type of keys, and a number of pairs."""
+    picked = [[it for it in among if str(it) in words] or among for among in (OPERATIONS, KEYS, SIZES)]
+    return [place for place in itertools.product(*picked) if place[2] <= KEYS[place[1]]]
 
-    def chosen(among):
-        return [it for it in among if str(it) in words] or among
 
-    for place in itertools.starmap(Place, itertools.product(chosen(OPERATIONS), chosen(KEYS), chosen(SIZES))):
-        if place.pairs <= KEYS[place.keys]:
-            yield place
+def lines(program, *words):
+    """The lines that the program prints, each as a list of words."""
+    ran = subprocess.run([program, *map(str, words)], capture_output=True, text=True)
+    return [line.split() for line in ran.stdout.splitlines()] if not ran.returncode else sys.exit(f"{words}: {ran.stderr}")
 
 
 def times(program, place, rounds):
     """The nanoseconds of one operation in each round, for each map. All maps have to give the same answers."""
-    command = [program, "times", place.keys, place.operation, str(place.pairs), str(rounds)]
-    ran = subprocess.run(command, capture_output=True, text=True)
+    operation, keys, pairs = place
     found, answers = {it: [] for it in MAPS}, set()
-    for line in ran.stdout.splitlines():
-        name, picoseconds, answer = line.split()
+    for name, picoseconds, answer in lines(program, "times", keys, operation, pairs, rounds):
         found[name].append(int(picoseconds) / 1000)
         answers.add(answer)
-    if ran.returncode or len(answers) != 1:
-        sys.exit(f"{program}: {' '.join(map(str, place))}: {ran.stderr or 'the answers differ'}")
-    return found
+    return found if len(answers) == 1 else sys.exit(f"{place}: the answers differ")
 
 
-def spread(found):
-    """How far the quartiles lie apart, as a part of the median."""
-    ordered = sorted(found)
-    quarter = (len(ordered) - 1) // 4
-    return (ordered[-1 - quarter] - ordered[quarter]) / max(statistics.median(found), 0.01)
-
-
-def print_times(program, rounds, words):
-    """Prints a table for each operation."""
-
-    def row(place):
-        print(*place, file=sys.stderr)
+def time_rows(program, rounds, words, drawn):
+    """The medians at each place, how far half of the times lie from them at most, and the ratios of the medians."""
+    for place in places(words):
         found = times(program, place, rounds)
-        pairs = [zip(found[MAPS[0]], found[name]) for name in MAPS[1:]]
-        ratios = [statistics.median(ours / max(theirs, 0.01) for ours, theirs in it) for it in pairs]
-        numbers = [f"{statistics.median(found[name]):,.1f}" for name in MAPS]
-        DRAWN[place] = [round(statistics.median(found[name]), 1) for name in MAPS[:2]]
-        widest = max(map(spread, found.values()))
-        return [place.keys, f"{place.pairs:,}", *numbers, f"{widest:.0%}", *(f"{it:.2f}" for it in ratios)]
-
-    print(f"Times of one operation in nanoseconds, and ratios, by the medians of {rounds} rounds:")
-    heads = ["keys", "pairs", *MAPS, "spread", *(f"to {name}" for name in MAPS[1:])]
-    for operation, rows in itertools.groupby(places(words), lambda it: it.operation):
-        print(f"\n`{operation}`\n")
-        print_table(heads, map(row, rows))
+        medians = [max(statistics.median(found[name]), 0.1) for name in MAPS]
+        apart = [statistics.median(abs(it / median - 1) for it in found[name]) for name, median in zip(MAPS, medians)]
+        drawn[place] = [round(it, 1) for it in medians[:2]]
+        ratios = [f"{medians[0] / other:.2f}" for other in medians[1:]]
+        yield [*place, *(f"{it:.1f}" for it in medians), f"{max(apart):.0%}", *ratios]
 
 
 def shuffled(program, order, folder):
@@ -116,132 +88,100 @@ def shuffled(program, order, folder):
     return output
 
 
-def print_against(program, other, rounds, words, folder):
-    """Prints how long this tree's maps take by those of another tree. The means of std's and indexmap's should be about 1."""
-    other = pathlib.Path(other).resolve() / "crates/half_bench/out/half_bench"
-    if not other.exists():
-        sys.exit(f"{other}: not built")
-    orders = [[shuffled(built, order, folder) for built in (program, other)] for order in range(1, ORDERS + 1)]
-    # All run on one processor, so that none has a better one, and they take turns, also in which goes first.
-    os.sched_setaffinity(0, {max(os.sched_getaffinity(0))})
-
-    def row(place):
-        found = {program: {name: [] for name in MAPS} for programs in orders for program in programs}
-        for turn, programs in itertools.product(range(rounds), orders):
-            for program in programs if turn % 2 == 0 else reversed(programs):
-                for name, nanoseconds in times(program, place, 1).items():
-                    found[program][name] += nanoseconds
-        for name in MAPS:
-            median = {program: statistics.median(it[name]) for program, it in found.items()}
-            ratios = [median[ours] / max(median[theirs], 0.01) for ours, theirs in orders]
-            yield " ".join(f"{it:.2f}" for it in (min(ratios), statistics.mean(ratios), max(ratios)))
-
-    print(f"How many times as long as there, by the medians of {rounds} rounds: least, mean and greatest of {ORDERS} orders\n")
-    print_table(["operation", "keys", "pairs", *MAPS], ([*place, *row(place)] for place in places(words)), texts=2)
+def against_rows(program, other, rounds, words):
+    """The least, mean and greatest ratio of two programs' medians. The means of std's and indexmap's should be about 1."""
+    with tempfile.TemporaryDirectory() as folder:
+        orders = [[shuffled(built, order, folder) for built in (program, other)] for order in range(1, ORDERS + 1)]
+        # All run on one processor, so that none has a better one, and they take turns, also in which goes first.
+        os.sched_setaffinity(0, {max(os.sched_getaffinity(0))})
+        for place in places(words):
+            found = collections.defaultdict(list)
+            for turn, both in itertools.product(range(rounds), orders):
+                for built in both if turn % 2 == 0 else reversed(both):
+                    for name, nanoseconds in times(built, place, 1).items():
+                        found[built, name] += nanoseconds
+            median = {it: max(statistics.median(nanoseconds), 0.01) for it, nanoseconds in found.items()}
+            ratios = [[median[ours, name] / median[theirs, name] for ours, theirs in orders] for name in MAPS]
+            yield [*place, *(f"{min(it):.2f} {statistics.mean(it):.2f} {max(it):.2f}" for it in ratios)]
 
 
 def peak_bytes(program, *words):
     """The most memory that the program had at once. It waits for the end of its input, so that this can be read."""
     command = [program, "memory", *map(str, words)]
-    running = subprocess.Popen(command, stdin=subprocess.PIPE, stdout=subprocess.PIPE, text=True)
-    running.stdout.readline()
-    # What os.wait4 gives would count the pages of this process too, which the child had before it became the program.
-    status = pathlib.Path(f"/proc/{running.pid}/status").read_text()
-    running.communicate()
-    if running.returncode:
-        sys.exit(f"{command}: status {running.returncode}")
-    return int(re.search(r"^VmHWM:\s*(\d+)", status, re.M)[1]) * 1024
+    with subprocess.Popen(command, stdin=subprocess.PIPE, stdout=subprocess.PIPE, text=True) as running:
+        running.stdout.readline()
+        # What os.wait4 gives would count the pages of this process too, which the child had before it became the program.
+        status = pathlib.Path(f"/proc/{running.pid}/status").read_text()
+        running.communicate()
+    return int(re.search(r"^VmHWM:\s*(\d+)", status, re.M)[1]) * 1024 if not running.returncode else sys.exit(f"memory {words}")
 
 
-def memory_rows(program):
+def memory_rows(program, drawn):
     """Bytes a pair of as many maps as hold a million pairs. A single map would be lost in the pages of the program."""
     empty = peak_bytes(program, "u64", "std", 0, 0)
     for keys, size in itertools.product(KEYS, SIZES):
-        print(f"memory {keys} {size}", file=sys.stderr)
         copies = PAIRS // size
         peaks = [peak_bytes(program, keys, name, size, copies) for name in MAPS]
         pair = [round((peak - empty) / (size * copies)) for peak in peaks]
-        DRAWN[keys, size] = pair[:2]
-        yield [keys, f"{size:,}", f"{copies:,}", *pair]
+        drawn[keys, size] = pair[:2]
+        yield [keys, size, copies, *pair]
 
 
-def reads_lines(program):
-    """For each load the lines that the program prints of each type of keys: of reads, and of reads of many buckets."""
-    commands = [[program, "reads", keys, str(FULL)] for keys in KEYS]
-    found = [subprocess.run(it, capture_output=True, text=True, check=True).stdout.splitlines() for it in commands]
-    lines = [[list(map(int, line.split())) for line in both] for both in zip(*found)]
-    size = 1 + len(picture.MANY)
-    return [lines[at : at + size] for at in range(0, len(lines), size)]
+def reads_rows(program):
+    """What probes read on average, at most and as measured, and of how many one reads more buckets than some number."""
+    for keys in KEYS:
+        found = collections.defaultdict(dict)
+        for pairs, probes, read, many in lines(program, "reads", keys, FULL):
+            found[int(pairs), probes][int(read)] = int(many)
+        for (pairs, probes), counted in found.items():
+            free, total = BUCKETS / (BUCKETS - pairs), sum(counted.values())
+            most = (1 + free ** (2 if probes == "misses" else 1)) / 2
+            mean = sum(read * many for read, many in counted.items()) / total
+            longer = [sum(many for read, many in counted.items() if read > most) for most in picture.MANY]
+            parts = [picture.one_in(it / total) for it in longer]
+            yield [keys, f"{pairs / BUCKETS:.3f}", probes, f"{most:.2f}", f"{mean:.2f}", *parts]
 
 
-def reads_rows(loads):
-    """The buckets that a miss reads on average, an insertion since the table was empty, and a hit: by proof, and measured."""
-    for both, *_ in loads:
-        held = both[0][0]
-        free = BUCKETS / (BUCKETS - held)
-        misses = [(1 + free**2) / 2, *(reads / FULL for _, reads, _, _ in both)]
-        insertions = [(1 + free) / 2, *(reads / held for _, _, reads, _ in both)]
-        hits = [(1 + free) / 2, *(reads / held for _, _, _, reads in both)]
-        yield [f"{held / BUCKETS:.3f}", *(f"{mean:.2f}" for mean in misses + insertions + hits)]
-
-
-def long_rows(loads):
-    """Of how many misses, and of how many hits, one reads more buckets than some number, by proof and as measured."""
-    for both in itertools.chain.from_iterable(lines for _, *lines in loads):
-        held, many = both[0][:2]
-        parts = [picture.proved_tail(held / BUCKETS, many), *(misses / FULL for _, _, misses, _ in both)]
-        parts += [hits / held for _, _, _, hits in both]
-        yield [f"{held / BUCKETS:.3f}", many, *map(picture.one_in, parts)]
-
-
-def print_others(program, words):
-    if "memory" in words:
+def print_figures(program, rounds, words):
+    """Prints what the words pick, or all, and draws that."""
+    began, drawn, rows = time.monotonic(), {}, [it for it in words if it not in OTHERS]
+    if rows or not words:
+        print(f"Times of one operation in nanoseconds, and ratios, by the medians of {rounds} rounds:\n")
+        heads = ["operation", "keys", "pairs", *MAPS, "spread", *(f"to {name}" for name in MAPS[1:])]
+        print_table(heads, time_rows(program, rounds, rows, drawn))
+    if not words or "memory" in words:
         print("\nMemory, in bytes a pair at the peak:\n")
-        print_table(["keys", "pairs a map", "maps", *MAPS], memory_rows(program))
-    if "reads" in words:
-        print(f"\nBuckets that a probe reads on average, in a table of {BUCKETS:,}:\n")
-        heads = [f"{what}, {how}" for what in ("a miss", "an insertion", "a hit") for how in ("at most", *KEYS)]
-        loads = reads_lines(program)
-        print_table(["load", *heads], reads_rows(loads))
-        print("\nOne search in so many reads more buckets:\n")
-        heads = ["misses, by proof", *(f"{what}, {keys}" for what in ("misses", "hits") for keys in KEYS)]
-        print_table(["load", "more than", *heads], long_rows(loads))
-
-
-def print_machine(seconds):
+        print_table(["keys", "pairs a map", "maps", *MAPS], memory_rows(program, drawn))
+    if not words or "reads" in words:
+        print(f"\nBuckets that a probe reads in a table of {BUCKETS:,}, and of how many probes one reads more:\n")
+        heads = ["keys", "load", "probes", "at most", "on average", *(f"more than {it}" for it in picture.MANY)]
+        print_table(heads, reads_rows(program))
+    if not words:
+        (picture.DOCS / "speed.svg").write_text(picture.picture(drawn))
     model = re.search(r"^model name\s*: (.*)$", pathlib.Path("/proc/cpuinfo").read_text(), re.M)
-    version = subprocess.run(["rt", "version"], capture_output=True, text=True).stdout.strip()
-    print(
-        f"\nThis took {math.ceil(seconds / 60)} min on {len(os.sched_getaffinity(0))} processors"
-        f" ({model[1] if model else platform.machine()}) under {platform.system()} {platform.release()}, with `{version}`."
-    )
+    minutes, machine = (time.monotonic() - began) / 60, model[1] if model else platform.machine()
+    print(f"\nThis took {minutes:.0f} min on {len(os.sched_getaffinity(0))} processors ({machine}).")
 
 
 def main():
-    began, words, other = time.monotonic(), sys.argv[1:], None
+    words, other = sys.argv[1:], None
     if words[:1] == ["--against"]:
         _, other, *words = words if len(words) > 1 else sys.exit("--against: with which tree? Give its folder")
+        other = pathlib.Path(other).resolve() / "crates/half_bench/out/half_bench"
     # A size is a number too, so the rounds are told by their place.
     rounds = int(words.pop(0)) if words and words[0].isdigit() else 3 if other else 9
     known = [*OPERATIONS, *KEYS, *map(str, SIZES), *([] if other else OTHERS)]
     if unknown := [it for it in words if it not in known]:
         sys.exit(f"{unknown[0]}: not one of {' '.join(known)}")
-    minutes = math.ceil(0.6 * rounds * (2 * ORDERS if other else 1))
-    print(f"After the proofs of half_bench, all rows take about {minutes} minutes", file=sys.stderr)
+    minutes = 0.6 * rounds * (2 * ORDERS if other else 1)
+    print(f"After the proofs of half_bench, all rows take about {minutes:.0f} minutes", file=sys.stderr)
     if subprocess.run([tools.TESTS / "prove.sh", "half_bench", "run"]).returncode:
         sys.exit(1)
-    program, rows = tools.program("half_bench"), [it for it in words if it not in OTHERS]
-    if other:
-        with tempfile.TemporaryDirectory() as folder:
-            return print_against(program, other, rounds, words, folder)
-    if rows or not words:
-        print_times(program, rounds, rows)
-    print_others(program, words or OTHERS)
-    if not words:
-        # What the picture shows of this map, and of std's.
-        times = {it: {size: DRAWN[it, "u64", size] for size in picture.PAIRS} for it in picture.OPERATIONS}
-        picture.write(times, {keys: {size: DRAWN[keys, size] for size in SIZES} for keys in KEYS})
-    print_machine(time.monotonic() - began)
+    program = tools.program("half_bench")
+    if not other:
+        return print_figures(program, rounds, words)
+    print(f"How many times as long as there, by the medians of {rounds} rounds: least, mean and greatest of {ORDERS} orders\n")
+    print_table(["operation", "keys", "pairs", *(f"{it:>14}" for it in MAPS)], against_rows(program, other, rounds, words))
 
 
 main()

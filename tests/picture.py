@@ -11,8 +11,8 @@ import re
 
 OPERATIONS = "hit miss build remove churn entry_few entry_many clone retain drain".split()
 DOCS = pathlib.Path(__file__).resolve().parent.parent / "docs"
-PAIRS = {16: "16 pairs, a vector", 33: "33 pairs, a table", 1_000: "1,000", 100_000: "100,000"}
-MARKS = {16: "#c0392b", 33: "#9ecae1", 1_000: "#4292c6", 100_000: "#084594"}
+PAIRS = {16: ("16 pairs, a vector", "#c0392b"), 33: ("33 pairs, a table", "#9ecae1")}
+PAIRS |= {1_000: ("1,000", "#4292c6"), 100_000: ("100,000", "#084594")}
 HERE, STD = "#c0392b", "#bbbbbb"
 LEFT, SCALE, ROW, TOP = 140, 130, 19, 62
 # Buckets of the table whose searches are counted, how full it is, and more than how many buckets these read.
@@ -21,61 +21,63 @@ LOADS = {"half full": (0.5, "#084594"), "full": (0.75, HERE)}
 
 
 def figures(page):
-    """The times by operation and pairs, and the bytes by keys and pairs, of this map and std's, as the page has them."""
-    times, memory = {}, {}
-    for line in page.splitlines():
-        numbers = [float(it) for it in re.findall(r" ([\d.]+)(?= |$)", line)]
-        words = line.split()
-        if len(numbers) == 10 and words[0] in OPERATIONS:
-            times[words[0]] = dict(zip(PAIRS, zip(numbers[::2], numbers[1::2])))
-        elif found := re.match(r"    (u64|String)? +(here|std) ", line):
-            keys = found[1] or keys
-            memory.setdefault(keys, []).append(numbers)
+    """The times of this map and std's by operation, keys and pairs, and the bytes by keys and pairs, as the page has them."""
+    drawn = {}
+    for operation, line in re.findall(r"^    (\w+) .*?((?: +[\d.]+){10})$", page, re.M):
+        numbers = line.split()
+        drawn |= {(operation, "u64", it): both for it, both in zip(PAIRS, zip(numbers[::2], numbers[1::2]))}
     sizes = re.search(r"^    pairs a map (.*)$", page, re.M)[1].replace(",", "").split()
-    return times, {keys: dict(zip(map(int, sizes), zip(*both))) for keys, both in memory.items()}
+    for keys, here, std in re.findall(r"^    (u64|String) +here +(.*)\n +std +(.*)$", page, re.M):
+        drawn |= {(keys, int(size)): both for size, both in zip(sizes, zip(here.split(), std.split()))}
+    return {place: tuple(map(float, both)) for place, both in drawn.items()}
+
+
+def svg(width, height, drawn):
+    """The lines of a picture."""
+    size = f'width="{width}" height="{height}" font-family="sans-serif" font-size="13"'
+    head = f'<svg xmlns="http://www.w3.org/2000/svg" {size}>', '<rect width="100%" height="100%" fill="white"/>'
+    return "\n".join([*head, *drawn, "</svg>\n"])
 
 
 def text(x, y, words, anchor="start"):
     return f'<text x="{x:g}" y="{y:g}" text-anchor="{anchor}">{words}</text>'
 
 
-def ratios(times):
+def ratios(drawn):
     """A row for each operation, with a dot where the time of this map stands as a multiple of std's."""
-    bottom = TOP + ROW * len(times)
+    bottom = TOP + ROW * len(OPERATIONS)
     yield text(10, 20, "Time of one operation beside that of std's map: what is left of the line is faster here. Keys are numbers.")
-    for place, (pairs, words) in enumerate(PAIRS.items()):
-        x = LEFT + (0, 160, 300, 370)[place]
-        yield f'<circle cx="{x}" cy="36" r="5" fill="{MARKS[pairs]}"/>' + text(x + 10, 40, words)
+    for x, (words, colour) in zip((0, 160, 300, 370), PAIRS.values()):
+        yield f'<circle cx="{LEFT + x}" cy="36" r="5" fill="{colour}"/>' + text(LEFT + x + 10, 40, words)
     for ratio, words in ((0.25, "1/4"), (0.5, "1/2"), (1, "as long as std"), (2, "2"), (4, "4 times as long")):
         x = LEFT + SCALE * math.log2(4 * ratio)
         yield f'<path d="M{x:g} {TOP - 10}V{bottom}" stroke="{"#444" if ratio == 1 else "#ddd"}"/>' + text(x, bottom + 16, words, "middle")
-    for row, (operation, by_pairs) in enumerate(times.items()):
-        y = TOP + ROW * row
-        places = {it: LEFT + SCALE * math.log2(4 * here / std) for it, (here, std) in by_pairs.items()}
-        dots = (f'<circle cx="{x:.0f}" cy="{y}" r="5" fill="{MARKS[it]}"/>' for it, x in places.items())
-        yield text(10, y + 4, operation) + "".join(dots)
+    for y, operation in zip(range(TOP, bottom, ROW), OPERATIONS):
+        dots = ""
+        for pairs, (_, colour) in PAIRS.items():
+            here, std = drawn[operation, "u64", pairs]
+            dots += f'<circle cx="{LEFT + SCALE * math.log2(4 * here / std):.0f}" cy="{y}" r="5" fill="{colour}"/>'
+        yield text(10, y + 4, operation) + dots
 
 
-def bars(keys, by_pairs, top):
+def bars(drawn, keys, top):
     """Two bars for each number of pairs a map: the bytes a pair of this map and of std's."""
     yield text(10, top, f"Bytes a pair, keys {keys}, by pairs a map: this map, and std's in grey.")
-    for row, (pairs, both) in enumerate(by_pairs.items()):
-        y = top + 12 + 2 * ROW * row
-        drawn = text(10, y + 16, f"{pairs:,}")
-        for place, (bytes_, colour) in enumerate(zip(both, (HERE, STD))):
-            drawn += f'<rect x="{LEFT}" y="{y + 13 * place}" width="{2 * bytes_:g}" height="11" fill="{colour}"/>'
-            drawn += text(LEFT + 2 * bytes_ + 6, y + 10 + 13 * place, f"{bytes_:g}")
-        yield drawn
+    rows = [(place[1], both) for place, both in drawn.items() if place[0] == keys]
+    for y, (pairs, both) in zip(itertools.count(top + 12, 2 * ROW), rows):
+        line = text(10, y + 16, f"{pairs:,}")
+        for bar, bytes_, colour in zip((y, y + 13), both, (HERE, STD)):
+            line += f'<rect x="{LEFT}" y="{bar}" width="{2 * bytes_:g}" height="11" fill="{colour}"/>'
+            line += text(LEFT + 2 * bytes_ + 6, bar + 10, f"{bytes_:g}")
+        yield line
 
 
-def picture(times, memory):
-    """The lines of the picture."""
-    drawn, top = list(ratios(times)), TOP + ROW * len(times) + 60
-    for keys, by_pairs in memory.items():
-        drawn += bars(keys, by_pairs, top)
-        top += 2 * ROW * len(by_pairs) + 40
-    head = f'<svg xmlns="http://www.w3.org/2000/svg" width="720" height="{top - 20}" font-family="sans-serif" font-size="13">'
-    return "\n".join([head, '<rect width="100%" height="100%" fill="white"/>', *drawn, "</svg>\n"])
+def picture(drawn):
+    """The lines of the picture of times and bytes."""
+    top, sizes = TOP + ROW * len(OPERATIONS) + 60, sum(place[0] == "u64" for place in drawn)
+    below = top + 2 * ROW * sizes + 40
+    rows = [*ratios(drawn), *bars(drawn, "u64", top), *bars(drawn, "String", below)]
+    return svg(720, 2 * below - top - 20, rows)
 
 
 def proved_tail(load, many):
@@ -114,17 +116,10 @@ def tail_rows(load):
     yield " " * 24 + "proved  " + "".join(f"{one_in(proved_tail(load, many)):>13}" for many in MANY)
 
 
-def measured_tails(page):
-    """One miss in how many reads more than each of MANY buckets, by how full the table is, as the page has it."""
-    rows = re.findall(r"^    misses, (half full|full) +measured +(.*)$", page, re.M)
-    return {words: [it.replace(",", "") for it in numbers.split()] for words, numbers in rows}
-
-
-def tail_picture(measured):
-    """The lines of the picture of long misses."""
+def tail_picture(page):
+    """The lines of the picture of long misses: one in how many reads more than each of MANY buckets, as the page has it."""
+    measured = dict(re.findall(r"^    misses, (half full|full) +measured +(.*)$", page, re.M))
     place = lambda many, count: f"{90 + 6 * many:g} {70 + 50 * math.log10(count):.1f}"
-    yield '<svg xmlns="http://www.w3.org/2000/svg" width="650" height="410" font-family="sans-serif" font-size="13">'
-    yield '<rect width="100%" height="100%" fill="white"/>'
     yield text(10, 20, "How many misses there are for each one that reads more than 0 to 80 buckets.")
     yield text(10, 40, "Dashed: what is proved. Solid: Knuth's distribution. Dots: measured.")
     for digits in range(7):
@@ -136,21 +131,16 @@ def tail_picture(measured):
             yield f'<path d="M{"L".join(points)}" fill="none" stroke="{colour}" stroke-dasharray="{dashes}"/>'
         x, y = map(float, points[-1].split())
         yield text(x + 6, y, words)
-        for many, count in zip(MANY, measured[words]):
+        for many, count in zip(MANY, measured[words].replace(",", "").split()):
             if count != "-":
                 x, y = place(many, float(count)).split()
                 yield f'<circle cx="{x}" cy="{y}" r="4" fill="{colour}"/>'
-    yield "</svg>\n"
-
-
-def write(times, memory):
-    (DOCS / "speed.svg").write_text(picture(times, memory))
 
 
 def pictures():
     """Each picture's file, and what it has by the figures of the pages."""
-    yield DOCS / "speed.svg", picture(*figures((DOCS / "SPEED.md").read_text()))
-    yield DOCS / "tail.svg", "\n".join(tail_picture(measured_tails((DOCS / "TABLE.md").read_text())))
+    yield DOCS / "speed.svg", picture(figures((DOCS / "SPEED.md").read_text()))
+    yield DOCS / "tail.svg", svg(650, 410, tail_picture((DOCS / "TABLE.md").read_text()))
 
 
 if __name__ == "__main__":

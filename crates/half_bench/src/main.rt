@@ -6,7 +6,6 @@ mod calls;
 mod keys;
 mod maps;
 mod operations;
-mod outside;
 mod reads;
 mod rounds;
 mod uses;
@@ -16,15 +15,11 @@ use keys::Key;
 use std::time::CpuClock;
 use std::{env, io};
 
-const USAGE: &str = "half_bench times u64|String OPERATION SIZE ROUNDS
-    prints a line for each round and map: the map, the picoseconds of one operation, and a number made of all answers
-half_bench count u64|String GROUP CALL SIZE
-    does the work of a call on our maps between two looks at the clock, and prints how many operations that is
-half_bench memory u64|String halfbrown|std|indexmap SIZE COPIES
-    fills this many maps, prints how many there are, and waits for the end of its input
-half_bench reads u64|String PAIRS
-    fills a table, and prints at five loads the pairs, and the buckets that PAIRS misses read, the insertions, and a hit of each pair,
-    and for 10, 20, 40 and 80 buckets the pairs, that number, and how many misses and hits read more";
+const USAGE: &str = "\
+half_bench times u64|String OPERATION SIZE ROUNDS: for each round and map the picoseconds of one operation, and an answer
+half_bench count u64|String GROUP CALL SIZE: how many operations were done between two looks at the clock, and an answer
+half_bench memory u64|String halfbrown|std|indexmap SIZE COPIES: how many maps stay filled until the end of the input
+half_bench reads u64|String PAIRS: at five loads, for each kind of probes, how many read how many buckets";
 
 fn main(rt: HostRuntime) -> io::Result<()> {
     let words: Vec<String> = env::args(&rt)?.skip(1).collect(rt.alloc())?;
@@ -49,7 +44,7 @@ fn run<K: Key>(
         }
         ("count", [group, call, size]) => rounds::count::<K>(rt, group, call, number(size)?),
         ("memory", [map, size, copies]) => {
-            outside::hold::<K>(rt, map, number(size)?, number(copies)?)
+            maps::hold::<K>(rt, map, number(copies)?, number(size)?)
         }
         ("reads", [pairs]) => reads::print::<K>(rt, number(pairs)?),
         _ => Err(unknown()),

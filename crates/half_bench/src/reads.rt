@@ -1,9 +1,9 @@
 //! How many buckets probes read, by the hashes of keys. The buckets count their reads.
 use crate::keys::Key;
 use half_store::{Table, TableMemory, Tally};
-use halfbrown::DefaultHashBuilder;
+use halfbrown::{DefaultHashBuilder, HashMap};
 use std::alloc::Global;
-use std::hash::{BuildHasher, BuildHasherDefault};
+use std::hash::BuildHasher;
 use std::io;
 use std::ops::Range;
 use test_support::probes::{probed, searched};
@@ -11,65 +11,35 @@ use test_support::probes::{probed, searched};
 // Which pair is replaced next: a prime, so that they lie all over the table.
 const STRIDE: u64 = 1_000_003;
 
-// Probes that read more buckets than one of these are counted.
-const MANY: [u64; 4] = [10, 20, 40, 80];
+// How many probes have read how many buckets.
+type Reads = HashMap<u64, u64>;
 
-// What probes have read: the buckets in all, and how many probes read more than each of MANY.
-#[derive(Drop)]
-struct Reads {
-    total: u64,
-    long: [u64; 4],
-}
-
-impl Reads {
-    fn new() -> Reads {
-        Reads {
-            total: 0,
-            long: [0; 4],
-        }
-    }
-
-    // Adds a probe that has read this many.
-    fn add(&mut self, read: u64) {
-        self.total = self.total.wrapping_add(read);
-        for at in 0..4 {
-            if read > MANY[at] {
-                self.long[at] = self.long[at].wrapping_add(1);
-            }
-        }
-    }
+fn count(reads: &mut Reads, read: u64) -> io::Result<()> {
+    let probes = reads.entry(read)?.or_insert(0);
+    *probes = probes.wrapping_add(1);
+    Ok(())
 }
 
 // The hash of the key of the number.
 fn hash_of<K: Key>(alloc: Global, number: u64) -> io::Result<u64> {
-    let builder: DefaultHashBuilder = BuildHasherDefault::new();
-    Ok(builder.hash_one(&K::of_number(alloc, number)?))
+    Ok(DefaultHashBuilder::new().hash_one(&K::of_number(alloc, number)?))
 }
 
-// What searches for the keys of these numbers read, none of which is held.
-fn missing<K: Key>(alloc: Global, table: &Table, numbers: Range<u64>) -> io::Result<Reads> {
-    let mut reads = Reads::new();
-    for number in numbers {
-        reads.add(probed(table, hash_of::<K>(alloc, number)?).1);
-    }
-    Ok(reads)
-}
-
-// Adds the keys of these numbers, as far as there is capacity, and returns how many buckets that reads.
-fn adding<K: Key>(alloc: Global, table: &mut Table, numbers: Range<u64>) -> io::Result<u64> {
-    let mut read = 0u64;
+// Adds the keys of these numbers, as far as there is capacity, and returns what that reads.
+fn adding<K: Key>(alloc: Global, table: &mut Table, numbers: Range<u64>) -> io::Result<Reads> {
+    let mut reads = HashMap::new(alloc);
     for number in numbers {
         let hash = hash_of::<K>(alloc, number)?;
-        read = read.wrapping_add(probed(table, hash).1);
+        count(&mut reads, probed(table, hash).1)?;
         if table.len() < table.capacity() {
             table.add(hash, &mut Tally::new());
         }
     }
-    Ok(read)
+    Ok(reads)
 }
 
 // Removes pairs from all over the table, and adds the keys of these numbers in their place.
-fn replacing<K: Key>(
+fn replace<K: Key>(
     alloc: Global,
     table: &mut Table,
     held: &mut Vec<u64>,
@@ -88,64 +58,48 @@ fn replacing<K: Key>(
     Ok(())
 }
 
-// A table that has memory for this many pairs, after as many replacements as it has pairs, and the numbers of its keys.
-fn replaced<K: Key>(alloc: Global, capacity: usize, pairs: u64) -> io::Result<(Table, Vec<u64>)> {
-    let mut table = TableMemory::for_pairs(alloc, capacity)?.into_table();
-    let mut held: Vec<u64> = (0..pairs).collect(alloc)?;
-    adding::<K>(alloc, &mut table, 0..pairs)?;
-    replacing::<K>(alloc, &mut table, &mut held, pairs..pairs.wrapping_mul(2))?;
-    Ok((table, held))
-}
-
-// What the searches for all held keys read.
-fn finding<K: Key>(alloc: Global, table: &Table, held: &[u64]) -> io::Result<Reads> {
-    let mut reads = Reads::new();
-    for number in held {
-        let hash = hash_of::<K>(alloc, *number)?;
-        reads.add(searched(table, held, hash, number).2);
+// What searches for the keys of these numbers read, none of which is held.
+fn missing<K: Key>(alloc: Global, table: &Table, numbers: Range<u64>) -> io::Result<Reads> {
+    let mut reads = HashMap::new(alloc);
+    for number in numbers {
+        count(&mut reads, probed(table, hash_of::<K>(alloc, number)?).1)?;
     }
     Ok(reads)
 }
 
-// Prints how many searches of each kind read more than each of MANY.
-fn print_long(rt: &impl Print, held: u64, missed: &Reads, found: &Reads) -> io::Result<()> {
-    for at in 0..4 {
-        let (many, misses, hits) = (MANY[at], missed.long[at], found.long[at]);
-        println!(rt; "{held} {many} {misses} {hits}")?;
+// What searches for all held keys read.
+fn finding<K: Key>(alloc: Global, table: &Table, held: &[u64]) -> io::Result<Reads> {
+    let mut reads = HashMap::new(alloc);
+    for number in held {
+        let hash = hash_of::<K>(alloc, *number)?;
+        count(&mut reads, searched(table, held, hash, number).2)?;
+    }
+    Ok(reads)
+}
+
+fn print_reads(rt: &impl Print, pairs: u64, probes: &str, reads: &Reads) -> io::Result<()> {
+    for (read, many) in reads.iter() {
+        println!(rt; "{pairs} {probes} {read} {many}")?;
     }
     Ok(())
 }
 
-// Prints the lines of a table with these pairs, whose insertions have read so many buckets.
-fn print_load<K: Key>(
-    rt: &(impl Print + AllocGlobal),
-    capacity: u64,
-    held: u64,
-    added: u64,
-) -> io::Result<()> {
-    let alloc = rt.alloc();
-    let (table, numbers) = replaced::<K>(alloc, capacity as usize, held)?;
-    let others = capacity.wrapping_mul(2)..capacity.wrapping_mul(3);
-    let missed = missing::<K>(alloc, &table, others)?;
-    let found = finding::<K>(alloc, &table, numbers.as_slice())?;
-    let (misses, hits) = (missed.total, found.total);
-    println!(rt; "{held} {misses} {added} {hits}")?;
-    print_long(rt, held, &missed, &found)
-}
-
-/// Fills a table that has memory for this many pairs, and prints at a third, a half, two thirds, five sixths and all of
-/// them: the pairs, the buckets that as many searches for other keys read as it has memory for, those that the insertions have
-/// read, and those that one search for each pair reads; and for each of MANY the pairs, that number, and how many of both
-/// searches read more. The searches are in such a table after as many replacements as it has pairs.
+/// Fills a table with a third, a half, two thirds, five sixths and all of the pairs that it has memory for, and makes as many
+/// replacements. Prints of the insertions before these, of as many misses as there is memory for, and of a hit of each pair
+/// how many read how many buckets.
 pub(crate) fn print<K: Key>(rt: &(impl Print + AllocGlobal), capacity: u64) -> io::Result<()> {
     let alloc = rt.alloc();
-    let mut table = TableMemory::for_pairs(alloc, capacity as usize)?.into_table();
-    let (mut held, mut added) = (0u64, 0u64);
     for sixths in 2..7 {
-        let next = capacity.wrapping_mul(sixths) / 6;
-        added = added.wrapping_add(adding::<K>(alloc, &mut table, held..next)?);
-        held = next;
-        print_load::<K>(rt, capacity, held, added)?;
+        let pairs = capacity.wrapping_mul(sixths) / 6;
+        let mut table = TableMemory::for_pairs(alloc, capacity as usize)?.into_table();
+        let added = adding::<K>(alloc, &mut table, 0..pairs)?;
+        print_reads(rt, pairs, "insertions", &added)?;
+        let mut held: Vec<u64> = (0..pairs).collect(alloc)?;
+        replace::<K>(alloc, &mut table, &mut held, pairs..pairs.wrapping_mul(2))?;
+        let others = capacity.wrapping_mul(2)..capacity.wrapping_mul(3);
+        print_reads(rt, pairs, "misses", &missing::<K>(alloc, &table, others)?)?;
+        let found = finding::<K>(alloc, &table, held.as_slice())?;
+        print_reads(rt, pairs, "hits", &found)?;
     }
     Ok(())
 }

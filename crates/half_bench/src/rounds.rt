@@ -1,13 +1,13 @@
 //! Rounds: the three maps in turn, with the same work, by the processor time of the thread.
 use crate::keys::Key;
-use crate::maps::{Map, OfIndex, OfStd, Ours};
-use crate::operations::given::{Given, Made};
-use crate::operations::{call_ours, measure, measure_ours};
-use crate::uses;
+use crate::maps::Map;
+use crate::operations::given::Made;
+use crate::operations::{count_ours, measure};
 use std::alloc::Global;
 use std::io;
-use std::marker::PhantomData;
 use std::time::CpuClock;
+
+const MAPS: [&str; 3] = ["halfbrown", "std", "indexmap"];
 
 /// A run is of at least about this many keys or pairs: too many for the processor to learn the order of the answers.
 pub(crate) const LEAST_KEYS: u64 = 16_384;
@@ -24,37 +24,23 @@ pub(crate) fn print<K: Key>(
 ) -> io::Result<()> {
     for round in 0..rounds {
         for turn in 0..3 {
-            match round.wrapping_add(turn) % 3 {
-                0 => print_ours::<K>(rt, operation, size)?,
-                1 => print_other::<K, OfStd<K>>(rt, "std", operation, size)?,
-                _ => print_other::<K, OfIndex<K>>(rt, "indexmap", operation, size)?,
-            }
+            let map = MAPS[(round.wrapping_add(turn) % 3) as usize];
+            print_map::<K>(rt, map, operation, size)?;
         }
     }
     Ok(())
 }
 
-fn print_ours<K: Key>(
-    rt: &(impl Print + CpuClock + AllocGlobal),
-    operation: &str,
-    size: u64,
-) -> io::Result<()> {
-    let mut timer = Timer::<'_, _, K, Ours<K>>::new(rt, rt.alloc(), size);
-    for _ in 0..runs_of(size) {
-        measure_ours(&mut timer, operation)?;
-    }
-    println!(rt; "halfbrown {} {}", timer.picoseconds(), timer.answers)
-}
-
-fn print_other<K: Key, M: Map<K>>(
+fn print_map<K: Key>(
     rt: &(impl Print + CpuClock + AllocGlobal),
     map: &str,
     operation: &str,
     size: u64,
 ) -> io::Result<()> {
-    let mut timer = Timer::<'_, _, K, M>::new(rt, rt.alloc(), size);
-    for _ in 0..runs_of(size) {
-        measure(&mut timer, operation)?;
+    let mut timer = Timer::new(rt, rt.alloc(), size);
+    let runs = LEAST_IN_ALL.checked_div(size.max(LEAST_KEYS)).unwrap_or(1);
+    for _ in 0..runs.max(1) {
+        measure::<K>(&mut timer, map, operation)?;
     }
     println!(rt; "{map} {} {}", timer.picoseconds(), timer.answers)
 }
@@ -66,36 +52,15 @@ pub(crate) fn count<K: Key>(
     call: &str,
     size: u64,
 ) -> io::Result<()> {
-    if group == "use" {
-        return count_use::<K>(rt, call, size);
-    }
-    let mut timer = Timer::<'_, _, K, Ours<K>>::new(rt, rt.alloc(), size);
+    let mut timer = Timer::new(rt, rt.alloc(), size);
     timer.passes = 1;
-    call_ours(&mut timer, group, call)?;
+    count_ours::<K>(&mut timer, group, call)?;
     println!(rt; "{} {}", timer.operations, timer.answers)
 }
 
-// Reads the clock as a timer does, so that what lies between can be told apart.
-fn count_use<K: Key>(
-    rt: &(impl Print + CpuClock + AllocGlobal),
-    name: &str,
-    size: u64,
-) -> io::Result<()> {
-    let _start = rt.thread_cpu_time()?;
-    let answer = uses::work::<K>(rt.alloc(), name, size)?;
-    let _end = rt.thread_cpu_time()?;
-    println!(rt; "{size} {answer}")
-}
-
-// How many runs are timed together.
-fn runs_of(size: u64) -> u64 {
-    let runs = LEAST_IN_ALL.checked_div(size.max(LEAST_KEYS));
-    runs.unwrap_or(1).max(1)
-}
-
-/// Times operations on maps of one type and size.
+/// Times operations on maps of one size.
 #[derive(Drop)]
-pub(crate) struct Timer<'a, C, K, M> {
+pub(crate) struct Timer<'a, C> {
     rt: &'a C,
     pub alloc: Global,
     pub size: u64,
@@ -105,11 +70,10 @@ pub(crate) struct Timer<'a, C, K, M> {
     operations: u64,
     // A number that depends on all answers.
     answers: u64,
-    maps: PhantomData<(K, M)>,
 }
 
-impl<'a, C: CpuClock, K: Key, M: Map<K>> Timer<'a, C, K, M> {
-    fn new(rt: &'a C, alloc: Global, size: u64) -> Timer<'a, C, K, M> {
+impl<'a, C: CpuClock> Timer<'a, C> {
+    fn new(rt: &'a C, alloc: Global, size: u64) -> Timer<'a, C> {
         Timer {
             rt,
             alloc,
@@ -118,30 +82,31 @@ impl<'a, C: CpuClock, K: Key, M: Map<K>> Timer<'a, C, K, M> {
             nanoseconds: 0,
             operations: 0,
             answers: 0,
-            maps: PhantomData,
         }
     }
 
-    /// Times work, which can be done again or only once.
-    pub fn time<T, W>(&mut self, again: bool, given: Made<K, M, T>, work: W) -> io::Result<()>
-    where
-        T: Drop,
-        W: Fn(&mut Given<K, M, T>) -> io::Result<u64>,
-        requires work { W.IsAlwaysCallable work }
+    /// Times work with each map and its list, which can be done again or only once.
+    pub fn time<K: Key, M: Map<K>, T: Drop, W: Fn(&mut (M, Vec<T>)) -> io::Result<u64>>(
+        &mut self,
+        again: bool,
+        given: Made<K, M, T>,
+        work: W,
+    ) -> io::Result<()>
+        requires { W.IsAlwaysCallable work }
     {
         let mut given = given?;
         let passes = if again { self.passes } else { 1 };
         let start = self.rt.thread_cpu_time()?;
         for _ in 0..passes {
-            given.answer = work(&mut given)?;
+            self.answers = given.pass(self.answers, &work)?;
         }
         let spent = self.rt.thread_cpu_time()?.saturating_sub(start);
         let nanoseconds = u64::try_from(spent.as_nanos()).unwrap_or(u64::MAX);
         self.nanoseconds = self.nanoseconds.saturating_add(nanoseconds);
         let operations = given.operations.saturating_mul(passes);
         self.operations = self.operations.saturating_add(operations);
-        let answer = given.answer.wrapping_add(given.left());
-        self.answers = self.answers.wrapping_add(answer);
+        // The values that all maps have now.
+        self.answers = given.pass(self.answers, &|given: &mut (M, Vec<T>)| Ok(given.0.sum()))?;
         Ok(())
     }
 

@@ -8,7 +8,7 @@ use halfbrown::run::{Command, run};
 use std::alloc::Global;
 use std::{io, mem};
 
-/// Goes over a map, compares it, or changes its memory.
+/// Goes over a map, compares it, changes its memory, or takes pairs out.
 pub(crate) fn work<K: Key>(call: &str, map: &mut Ours<K>, alloc: Global) -> io::Result<u64> {
     match call {
         "keys" => return Ok(map.keys().count() as u64),
@@ -21,48 +21,11 @@ pub(crate) fn work<K: Key>(call: &str, map: &mut Ours<K>, alloc: Global) -> io::
         "clear" => map.clear(),
         "reserve" => map.reserve(map.len())?,
         "shrink_to_fit" => map.shrink_to_fit(),
-        _ => return move_pairs(call, map, alloc),
-    }
-    Ok(map.len() as u64)
-}
-
-// Takes pairs out, moves them to other places, or into a new map.
-fn move_pairs<K: Key>(call: &str, map: &mut Ours<K>, alloc: Global) -> io::Result<u64> {
-    let tally = &mut Tally::new();
-    match call {
-        "from_iter" => *map = HashMap::from_iter(alloc, taken(map, alloc))?,
-        "from_iter_counted" => *map = HashMap::from_iter_counted(alloc, taken(map, alloc), tally)?,
-        "extend" => {
-            let pairs = taken(map, alloc);
-            map.extend(pairs)?;
-        }
-        "extend_counted" => {
-            let pairs = taken(map, alloc);
-            map.extend_counted(pairs, tally)?;
-        }
         "pop" => return Ok(popped(map)),
         "shift_remove" => return Ok(map.shift_remove(&K::of_number(alloc, 0)?).unwrap_or(1)),
-        "run" => return run_insertions(map, alloc),
-        _ => return Err(unknown()),
+        _ => return add_pairs(call, map, alloc),
     }
     Ok(map.len() as u64)
-}
-
-// Inserts all pairs into a map that is left empty, by a run, and returns how many replies there are.
-fn run_insertions<K: Key>(map: &mut Ours<K>, alloc: Global) -> io::Result<u64> {
-    let mut commands = Vec::new(alloc);
-    for (key, value) in taken(map, alloc) {
-        commands.push(Command::Insert(key, value))?;
-    }
-    match run(alloc, map, commands) {
-        Ok(replies) => Ok(replies.len() as u64),
-        Err(_) => Err(io::Error::other("the replies got no memory")),
-    }
-}
-
-// The pairs of a map, which is left empty.
-fn taken<K: Key>(map: &mut Ours<K>, alloc: Global) -> Ours<K> {
-    mem::replace(map, HashMap::new(alloc))
 }
 
 // Takes out all pairs, the last first, and returns how many.
@@ -72,4 +35,31 @@ fn popped<K: Key>(map: &mut Ours<K>) -> u64 {
         popped = popped.wrapping_add(u64::from(map.pop().is_some()));
     }
     popped
+}
+
+// Adds the pairs of a map to a new one.
+fn add_pairs<K: Key>(call: &str, map: &mut Ours<K>, alloc: Global) -> io::Result<u64> {
+    let pairs = mem::replace(map, HashMap::new(alloc));
+    let tally = &mut Tally::new();
+    match call {
+        "from_iter" => *map = HashMap::from_iter(alloc, pairs)?,
+        "from_iter_counted" => *map = HashMap::from_iter_counted(alloc, pairs, tally)?,
+        "extend" => map.extend(pairs)?,
+        "extend_counted" => map.extend_counted(pairs, tally)?,
+        "run" => return run_insertions(map, pairs, alloc),
+        _ => return Err(unknown()),
+    }
+    Ok(map.len() as u64)
+}
+
+// Inserts pairs by a run, and returns how many replies there are.
+fn run_insertions<K: Key>(map: &mut Ours<K>, pairs: Ours<K>, alloc: Global) -> io::Result<u64> {
+    let mut commands = Vec::new(alloc);
+    for (key, value) in pairs {
+        commands.push(Command::Insert(key, value))?;
+    }
+    match run(alloc, map, commands) {
+        Ok(replies) => Ok(replies.len() as u64),
+        Err(_) => Err(io::Error::other("the replies got no memory")),
+    }
 }

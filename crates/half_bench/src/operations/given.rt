@@ -1,142 +1,125 @@
 //! What operations are given. It is made before the clock is read.
-use crate::keys::{Key, OfNumber, at_random, in_order};
-use crate::maps::{Map, many_filled};
+use crate::keys::{Key, list, scrambled};
+use crate::maps::{Map, filled};
 use crate::rounds::LEAST_KEYS;
+use halfbrown::DefaultHashBuilder;
 use std::alloc::Global;
+use std::hash::BuildHasher;
 use std::io;
 use std::marker::PhantomData;
-use std::ops::Range;
 
-/// Maps with keys of type K, and for each a list of keys or pairs.
+/// Maps with keys of type K, each with a list.
 #[derive(Drop)]
 pub(crate) struct Given<K, M, T> {
-    pub alloc: Global,
-    pub maps: Vec<M>,
-    pub lists: Vec<Vec<T>>,
-    /// Maps that the work makes.
-    pub others: Vec<M>,
+    pub maps: Vec<(M, Vec<T>)>,
     /// How many operations the work does.
     pub operations: u64,
-    /// A number that depends on all answers. Each pass begins with that of the last one, so that none can be left out.
-    pub answer: u64,
     keys: PhantomData<K>,
 }
 
 pub(crate) type Made<K, M, T> = io::Result<Given<K, M, T>>;
 
 impl<K: Key, M: Map<K>, T: Drop> Given<K, M, T> {
-    // Maps of this many pairs with these lists. Each key or pair of a list, or else of a map, stands for an operation.
-    fn new(alloc: Global, held: u64, lists: Vec<Vec<T>>) -> io::Result<Self> {
-        let copies = lists.len() as u64;
-        let length = lists.as_slice().first().map_or(0, |list| list.len() as u64);
+    // So many maps, each of this many pairs, with lists of what is made of the numbers below the length. There is an operation
+    // for each item of a list, or for each pair of a map if these are more.
+    fn new<F: Fn(u64) -> io::Result<T>>(
+        alloc: Global,
+        maps: u64,
+        held: u64,
+        length: u64,
+        make: F,
+    ) -> io::Result<Self>
+        requires { F.IsAlwaysCallable make }
+    {
+        let mut made = Vec::new(alloc);
+        for _ in 0..maps {
+            let list = list(alloc, 0..length, &make)?;
+            made.push((filled(alloc, held)?, list))?;
+        }
         Ok(Given {
-            alloc,
-            maps: many_filled(alloc, copies, held)?,
-            others: Vec::with_capacity(alloc, lists.len())?,
-            operations: copies.saturating_mul(length.max(held)),
-            answer: 0,
-            lists,
+            maps: made,
+            operations: maps.saturating_mul(length.max(held)),
             keys: PhantomData,
         })
     }
 
-    // One map of this many pairs, and a list.
-    fn of_one(alloc: Global, held: u64, list: Vec<T>) -> io::Result<Self> {
-        let mut lists = Vec::new(alloc);
-        lists.push(list)?;
-        Given::new(alloc, held, lists)
-    }
-
-    /// The sum of the values that all maps have now.
-    pub fn left(&self) -> u64 {
-        sum_of(self.maps.as_slice()).wrapping_add(sum_of(self.others.as_slice()))
+    /// Does work with each map and its list, and adds the answers to that of the last pass, so that none can be left out.
+    #[inline(never)]
+    pub fn pass<W>(&mut self, last: u64, work: &W) -> io::Result<u64>
+    where
+        W: Fn(&mut (M, Vec<T>)) -> io::Result<u64>,
+        requires work { W.IsAlwaysCallable work.now }
+    {
+        let mut sum = last;
+        for map_and_list in self.maps.as_mut_slice() {
+            sum = sum.wrapping_add(work(map_and_list)?);
+        }
+        Ok(sum)
     }
 }
 
-fn sum_of<K: Key, M: Map<K>>(maps: &[M]) -> u64 {
-    let mut sum = 0u64;
-    for map in maps {
-        sum = sum.wrapping_add(map.sum());
-    }
-    sum
+// How many maps of this size a run has.
+fn many(size: u64) -> u64 {
+    LEAST_KEYS.checked_div(size).unwrap_or(1).max(1)
 }
 
-// As many maps as a run has of this size, each of this many pairs, with lists of these numbers.
-fn of_many<K: Key, M: Map<K>, T: OfNumber>(
-    alloc: Global,
-    size: u64,
-    held: u64,
-    numbers: Range<u64>,
-) -> Made<K, M, T> {
-    let mut lists = Vec::new(alloc);
-    for _ in 0..LEAST_KEYS.checked_div(size).unwrap_or(1).max(1) {
-        lists.push(in_order(alloc, numbers.start..numbers.end)?)?;
-    }
-    Given::new(alloc, held, lists)
+// The key of a number below the size, which looks random.
+fn at_random<K: Key>(alloc: Global, size: u64, turn: u64) -> io::Result<K> {
+    K::of_number(alloc, scrambled(turn).checked_rem(size).unwrap_or(0))
 }
 
-/// A map, and keys that it holds.
-pub(crate) fn held<K: Key, M: Map<K>, T: OfNumber>(alloc: Global, size: u64) -> Made<K, M, T> {
-    Given::of_one(alloc, size, at_random(alloc, size, size.max(LEAST_KEYS))?)
+/// A map, and keys that it holds, in an order that looks random. A key may come more than once.
+pub(crate) fn held<K: Key, M: Map<K>>(alloc: Global, size: u64) -> Made<K, M, K> {
+    Given::new(alloc, 1, size, size.max(LEAST_KEYS), |turn| {
+        at_random(alloc, size, turn)
+    })
+}
+
+/// The same, each key with its hash.
+pub(crate) fn hashed<K: Key, M: Map<K>>(alloc: Global, size: u64) -> Made<K, M, (K, u64)> {
+    Given::new(alloc, 1, size, size.max(LEAST_KEYS), |turn| {
+        let key = at_random(alloc, size, turn)?;
+        let hash = DefaultHashBuilder::new().hash_one(&key);
+        Ok((key, hash))
+    })
 }
 
 /// A map, and keys that it does not hold.
 pub(crate) fn absent<K: Key, M: Map<K>>(alloc: Global, size: u64) -> Made<K, M, K> {
-    let end = size.saturating_add(size.max(LEAST_KEYS));
-    Given::of_one(alloc, size, in_order(alloc, size..end)?)
+    Given::new(alloc, 1, size, size.max(LEAST_KEYS), |turn| {
+        K::of_number(alloc, turn.saturating_add(size))
+    })
 }
 
 /// A map, and its keys from the oldest on, each with a new one.
 pub(crate) fn oldest<K: Key, M: Map<K>>(alloc: Global, size: u64) -> Made<K, M, (K, K)> {
-    let mut list = Vec::new(alloc);
-    for number in 0..size.max(LEAST_KEYS) {
-        list.push(old_and_new(alloc, number, number.saturating_add(size))?)?;
-    }
-    Given::of_one(alloc, size, list)
-}
-
-fn old_and_new<K: Key>(alloc: Global, old: u64, new: u64) -> io::Result<(K, K)> {
-    let new = K::of_number(alloc, new)?;
-    Ok((K::of_number(alloc, old)?, new))
+    Given::new(alloc, 1, size, size.max(LEAST_KEYS), |turn| {
+        let new = K::of_number(alloc, turn.saturating_add(size))?;
+        Ok((K::of_number(alloc, turn)?, new))
+    })
 }
 
 /// An empty map, and words, of which each comes about four times or more.
 pub(crate) fn words<K: Key, M: Map<K>>(alloc: Global, size: u64) -> Made<K, M, K> {
     let count = size.saturating_mul(4).max(LEAST_KEYS);
-    Given::of_one(alloc, 0, at_random(alloc, size, count)?)
+    Given::new(alloc, 1, 0, count, |turn| at_random(alloc, size, turn))
 }
 
-/// Lists of the keys or pairs of maps.
-pub(crate) fn lists<K: Key, M: Map<K>, T: OfNumber>(alloc: Global, size: u64) -> Made<K, M, T> {
-    of_many(alloc, size, 0, 0..size)
+/// Empty maps, and for each a list that has the keys so many times.
+pub(crate) fn lists<K: Key, M: Map<K>>(alloc: Global, size: u64, times: u64) -> Made<K, M, K> {
+    Given::new(alloc, many(size), 0, size.saturating_mul(times), |turn| {
+        K::of_number(alloc, turn.checked_rem(size).unwrap_or(0))
+    })
 }
 
-/// Lists of the keys of maps, each key twice.
-pub(crate) fn lists_twice<K: Key, M: Map<K>>(alloc: Global, size: u64) -> Made<K, M, K> {
-    let mut given: Given<K, M, K> = lists(alloc, size)?;
-    append_keys(alloc, given.lists.as_mut_slice(), size)?;
-    given.operations = given.operations.saturating_mul(2);
-    Ok(given)
+/// Maps, and for each a list of so many keys, of which those that it holds come first.
+pub(crate) fn maps<K: Key, M: Map<K>>(alloc: Global, size: u64, length: u64) -> Made<K, M, K> {
+    Given::new(alloc, many(size), size, length, |turn| {
+        K::of_number(alloc, turn)
+    })
 }
 
-fn append_keys<K: Key>(alloc: Global, lists: &mut [Vec<K>], size: u64) -> io::Result<()> {
-    for list in lists {
-        list.append(&mut in_order(alloc, 0..size)?)?;
-    }
-    Ok(())
-}
-
-/// Maps with all their pairs.
-pub(crate) fn maps<K: Key, M: Map<K>>(alloc: Global, size: u64) -> Made<K, M, K> {
-    of_many(alloc, size, size, 0..0)
-}
-
-/// Maps, and for each a list of its keys.
-pub(crate) fn filled<K: Key, M: Map<K>>(alloc: Global, size: u64) -> Made<K, M, K> {
-    of_many(alloc, size, size, 0..size)
-}
-
-/// Maps, and for each a list of its keys, and then of as many others.
-pub(crate) fn beyond<K: Key, M: Map<K>>(alloc: Global, size: u64) -> Made<K, M, K> {
-    of_many(alloc, size, size, 0..size.saturating_mul(2))
+/// Maps, and for each a place for a copy.
+pub(crate) fn places<K: Key, M: Map<K>>(alloc: Global, size: u64) -> Made<K, M, Option<M>> {
+    Given::new(alloc, many(size), size, 1, |_| Ok(None))
 }
