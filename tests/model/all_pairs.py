@@ -27,6 +27,10 @@ def clear(a):
     a.pairs = []
 
 
+def truncate(a, count):
+    a.pairs = a.pairs[:count]
+
+
 def add_to_values(a, number):
     for pair in a.pairs:
         pair.add(number)
@@ -115,6 +119,7 @@ def other_map(maps, limit, rule):
 
 OF_A_CALLS = {
     "clear": clear,
+    "truncate SIZE": truncate,
     "reserve SIZE": Map.reserve,
     "shrink_to_fit": Map.shrink_to_fit,
     "state": state,
