@@ -122,7 +122,7 @@ where
                 self.collect(call, words)
             }
             "clear" | "shrink_to_fit" | "drop" | "swap" | "same" | "eq" => self.whole(call, words),
-            "raw_entry_mut" | "reserve" | "retain" => self.whole(call, words),
+            "raw_entry_mut" | "reserve" | "retain" | "truncate" => self.whole(call, words),
             "iter_mut" | "values_mut" | "values_slice_mut" => self.whole(call, words),
             "clone" => self.clone_first(),
             "same_as" | "same_from" => self.print_same(call, words),

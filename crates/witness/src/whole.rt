@@ -15,6 +15,7 @@ impl<R: Print, K: Named, V: Number, S: Ruled, L: Limit> Player<'_, R, K, V, S, L
         self.mark();
         match call {
             "clear" => self.a.clear(),
+            "truncate" => self.a.truncate(words.count()),
             "shrink_to_fit" => self.a.shrink_to_fit(),
             "drop" => drop(take(&mut self.a, self.alloc)),
             "swap" => std::mem::swap(&mut self.a, &mut self.b),
