@@ -16,8 +16,7 @@ TYPES = {"halfbrown": "LimitedHashMap", "half_set": "HashSet", "json_value": "Va
 # No clause or field of such a name is printed, and no starred clause.
 LEFT_OUT = re.compile(r"(?:(?:requires|ensures) ?)?(?:\*|(?:cost|keeps|runs|same_map|small|valid|values_run)\b)")
 # Such a word is not printed: a line by hand says in short what it says, or no caller has to know it.
-NOT_OPENED = """ArePairClones HashesAlike InsertsAll PutsOrHandsBackWithIndex IsDefaultBuilder CollectIterRefused
-    InsertsUntilRefused SameEntry ShiftRemoves State""".split()
+NOT_OPENED = """ArePairClones IsDefaultBuilder CollectIterRefused InsertsUntilRefused SameEntry ShiftRemoves State""".split()
 DEFINITION = re.compile(
     r"^((?: *--.*\n)*)( *)(pub record|pub data|abbrev pub|unfoldable pub) (\w+)(.*)\n((?:\2 +\S.*\n|\2\4 .*\n)*)", re.M
 )
@@ -123,10 +122,10 @@ class Page:
         return text
 
     def call(self, found):
-        """A call of the page, quoted anew above the lines by hand."""
+        """A call of the page, quoted anew around the lines by hand."""
         head, *clauses = self.clauses[found[1]]
-        text = wrapped(head) + "".join(wrapped(it, "  ") + self.below([it], "    ") for it in clauses)
-        return text + "".join(re.findall(r"^  \|.*\n", found[0], re.M))
+        said = re.findall(r"^  \|.*\n", found[0], re.M)
+        return "".join([wrapped(head), *said, *(wrapped(it, "  ") + self.below([it], "    ") for it in clauses)])
 
     def list(self, found):
         """A list of the page, made anew."""

@@ -55,20 +55,20 @@ is_vec_for limit pairs = nat_le pairs limit
 abbrev pub is_vec_shrunk : ℕ → Bool → ℕ → Bool
 is_vec_shrunk limit is_vec pairs = is_vec || is_vec_for limit pairs
 
--- the capacity after `shrink_to_fit`
+-- the capacity after `shrink_to_fit`: the least of the form then that is enough for these pairs
 abbrev pub shrunk_capacity : ℕ → Bool → ℕ → ℕ
 shrunk_capacity limit is_vec pairs = least_capacity (is_vec_shrunk limit is_vec pairs) pairs
 
--- this many pairs, but in a vector at most the limit
-abbrev pub pairs_capped : ℕ → Bool → ℕ → ℕ
-pairs_capped limit is_vec pairs = if is_vec then min pairs limit else pairs
+-- the capacity that is wanted for this many pairs: in a vector at most the limit
+abbrev pub wanted_capacity : ℕ → Bool → ℕ → ℕ
+wanted_capacity limit is_vec pairs = if is_vec then min pairs limit else pairs
 
 -- the capacity that is wanted, if it is more than there is; otherwise none
 abbrev pub capacity_needed : ℕ → ℕ → Option ℕ
 capacity_needed capacity wanted = if nat_lt capacity wanted then Some wanted else None
 
--- the capacity after a granted call that needed this much: the same if it needed no more; otherwise what a vector grows to, or a table's least
--- that is enough
+-- the capacity after a call that succeeded: if it needed none as before; if it needed n, in a vector the greatest of n, 8 and twice the
+-- capacity, but at most the limit, and in a table the least of 3, 6, 12, 24, .. from n on
 abbrev pub capacity_after : ℕ → Bool → ℕ → Option ℕ → ℕ
 capacity_after limit is_vec capacity needed =
     option_map_or (λ n. if is_vec then grown_capacity limit capacity n else least_table_capacity n) needed capacity

@@ -6,7 +6,7 @@ use Rattle.std.specs.declared.io.ErrorKind.TheVariants.{OutOfMemory, InvalidInpu
 pub use Rattle.half_store.specs.declared.refusal.Refusal.{Refusal}
 pub use Rattle.half_store.specs.declared.refusal.Refusal.TheVariants.{Memory, Size}
 
--- why a call that needs capacity for this many pairs is refused, if it is: more than 2^60 are too many for any memory
+-- why a call that needs capacity for this many pairs is refused, if it is: `Size` for more than 2^60, otherwise `Memory`
 abbrev pub refusal_of : ℕ → Refusal
 refusal_of needed = if nat_lt (2 ^ 60) needed then Size else Memory
 

@@ -6,7 +6,7 @@ use Rattle.std.specs.declared.alloc.AllocError.{AllocError}
 use Rattle.std.specs.Global.{Box}
 pub use Rattle.half_store.specs.declared.store.find.Found.{Found}
 pub use Rattle.half_store.specs.declared.store.find.Vacancy.{Vacancy}
-use Rattle.half_store.specs.Capacity.{capacity_of, least_table_capacity, least_capacity, pairs_capped, capacity_needed, capacity_after, IsFormCapacity, is_vec_for, is_vec_shrunk, shrunk_capacity}
+use Rattle.half_store.specs.Capacity.{capacity_of, least_table_capacity, least_capacity, wanted_capacity, capacity_needed, capacity_after, IsFormCapacity, is_vec_for, is_vec_shrunk, shrunk_capacity}
 use Rattle.half_store.specs.Refusal.{Refusal, refusal_of, IsRefusal, IsGrantable}
 use Rattle.half_store.specs.Columns.{ColumnsState}
 use Rattle.half_store.specs.Table.{TableState, state_of_words, table_code, with_hash_in, IsTableVacancy, IsTablePlace}
@@ -89,7 +89,7 @@ pub record MakesTable {K V : Type 0} (old new : StoreState K V) (needed : ℕ) (
 module _ {K V : Type 0} (limit : ℕ) (s : StoreState K V) (additional : ℕ) where
   -- for how many pairs in all a reservation for this many more is
   abbrev pub reserve_wanted : ℕ
-  reserve_wanted = pairs_capped limit s.is_vec (length s.pairs + additional)
+  reserve_wanted = wanted_capacity limit s.is_vec (length s.pairs + additional)
 
   -- the capacity that it needs, or none if there is enough
   abbrev pub capacity_for_reserve : Option ℕ

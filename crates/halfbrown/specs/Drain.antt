@@ -9,7 +9,7 @@ use Rattle.half_store.specs.Store.{StoreState}
 use Rattle.halfbrown.specs.declared.drain.Drain.{Drain}
 use Rattle.halfbrown.specs.State.{State, map_with_pairs, state_in}
 
--- the map as it is once the `Drain` is dropped: its own store again, with no pair
+-- the map once this `Drain` is dropped: as before, with no pair
 abbrev pub map_once_dropped : {K V S L P H : Type 0} {e : EqGhosts K} {h : HashGhosts K} {b : HasherGhosts S K H} {l : LimitGhosts L} {p : taken.Ghosts P K V}
     → Drain K V S L P H e h b l p → State K V S
 map_once_dropped {p} d = map_with_pairs (state_in (p.store d.pairs) d.map.now.builder) []

@@ -49,8 +49,7 @@ module _ {K V S L H : Type 0} {e : EqGhosts K} {h : HashGhosts K} {b : HasherGho
   variant_view (Occupied o) = occupied o
   variant_view (Vacant v) = vacant v
 
-  -- an entry as clauses see it: its key, its pair if it has one, and its map. The reference to the map stands by itself, as what is lent
-  -- of it does
+  -- an entry as clauses see it: its key, its pair if it has one, and its map
   abbrev pub view : Entry K V S L H e h b l → EntryView K V S
   view entry = record (variant_view entry) { map = map_ref entry }
 
@@ -66,7 +65,7 @@ module _ {K V S L H : Type 0} {e : EqGhosts K} {h : HashGhosts K} {b : HasherGho
     pub entry : IfOk result (λ entry. IsEntryOf eq (eq k) m.now.pairs (view entry))
     pub new_key : IfOk result (λ entry. is_occupied (view entry) ≡ false → entry_key (view entry) ≡ Some k)
     pub writes : IfOk result (λ entry. PutsThroughEntry limit eq m.now k (view entry))
-    pub ok : IfOk result (λ entry. Prepares limit m.now (capacity_for_insert limit eq m.now k) (map_of (view entry)))
+    pub prepares : IfOk result (λ entry. Prepares limit m.now (capacity_for_insert limit eq m.now k) (map_of (view entry)))
     pub succeeds : capacity_for_insert limit eq m.now k ≡ None → IsOk result
     pub returned : IfErr result (HandsBackKey k (capacity_for_insert limit eq m.now k))
     pub valid : IfOk result (λ entry. IsValid limit eq (map_of (view entry)))

@@ -42,7 +42,7 @@ module _ {K V S : Type 0} where
   map_with_value entry value = option_map_or (λ index. map_with_pairs (map_of entry) (set_value_at (map_of entry).pairs index value)) entry.index
       (option_map_or (λ new. pushed (map_of entry) new.0 value new.1) entry.vacant (map_of entry))
 
-  -- the pairs once the entry's pair has this value, or, if it has none, the pair of this key is appended
+  -- the pairs once the entry's pair has this value; only if it has none the key matters, whose pair is then appended
   abbrev pub pairs_with_value : EntryView K V S → K → V → List (K × V)
   pairs_with_value entry key value = option_map_or (λ index. set_value_at (map_of entry).pairs index value) entry.index ((map_of entry).pairs ++ (key, value) ∷ [])
 

@@ -17,7 +17,7 @@ module _ {K V : Type 0} (eq : K → K → Bool) (value_eq : V → V → Bool) wh
   abbrev pub same_lookup : List (K × V) → List (K × V) → K → Bool
   same_lookup left right k = option_eq value_eq (value_of eq left k) (value_of eq right k)
 
-  -- whether each key of either list has equal values in both: what `==` of std's `HashMap`s with these entries returns
+  -- whether both lists have the same keys with equal values, in any order: what `==` of std's `HashMap`s with these entries returns
   abbrev pub same_pairs : List (K × V) → List (K × V) → Bool
   same_pairs left right = hash_map_eq eq value_eq (as_map left) (as_map right)
 

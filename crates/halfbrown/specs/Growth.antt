@@ -3,7 +3,7 @@
 use Rattle.std.specs.Prelude.{◌≡◌, ℕ, ◌+◌, ◌<◌, ◌≤◌, Bool, not, ◌&&◌, ◌==◌, nat_lt, length, Option, None, Some, Result, OnOk, OnErr, IsOk, IfErr, if◌then◌else◌}
 pub use Rattle.half_store.specs.declared.refusal.Refusal.{Refusal}
 pub use Rattle.half_store.specs.Refusal.{IsRefusal, IsGrantable}
-pub use Rattle.half_store.specs.Capacity.{pairs_capped, capacity_needed, capacity_after}
+pub use Rattle.half_store.specs.Capacity.{wanted_capacity, capacity_needed, capacity_after}
 use Rattle.half_store.specs.Capacity.{is_vec_shrunk, shrunk_capacity}
 use Rattle.halfbrown.specs.State.{State, IsValid}
 use Rattle.halfbrown.specs.Pairs.{holds}
@@ -12,11 +12,11 @@ use Rattle.halfbrown.specs.Pairs.{holds}
 abbrev pub capacity_for_growth : {K V S : Type 0} → State K V S → Option ℕ
 capacity_for_growth m = if nat_lt (length m.pairs) m.capacity then None else Some (length m.pairs + 1)
 
--- the capacity that a reservation for this many pairs more needs, or none if there is enough
+-- the capacity that a reservation for this many pairs more needs
 abbrev pub capacity_for_reserve : {K V S : Type 0} → ℕ → State K V S → ℕ → Option ℕ
-capacity_for_reserve limit m additional = capacity_needed m.capacity (pairs_capped limit m.is_vec (length m.pairs + additional))
+capacity_for_reserve limit m additional = capacity_needed m.capacity (wanted_capacity limit m.is_vec (length m.pairs + additional))
 
--- the capacity that a constructor for this many pairs needs
+-- the capacity that a constructor for this many pairs needs: none for 0
 abbrev pub capacity_for_making : ℕ → Option ℕ
 capacity_for_making needed = capacity_needed 0 needed
 
@@ -25,7 +25,7 @@ module _ {K V S : Type 0} (limit : ℕ) where
   abbrev pub is_full : State K V S → Bool
   is_full m = m.is_vec && (length m.pairs == limit)
 
-  -- whether the form is the vector after a granted switching call: one on a full vector makes a table
+  -- whether the form is the vector after an insertion or `entry` that succeeded: it was one, and not full
   abbrev pub is_vec_after : State K V S → Bool
   is_vec_after m = m.is_vec && not (is_full m)
 
@@ -33,11 +33,11 @@ module _ {K V S : Type 0} (limit : ℕ) where
   abbrev pub capacity_for_switch : State K V S → Option ℕ
   capacity_for_switch m = if is_full m then Some (limit + 1) else None
 
-  -- the capacity that an insertion of a new key needs, if it needs more
+  -- the capacity that an insertion of a new key needs: limit + 1 in a full vector, otherwise one more than are held if no capacity is left
   abbrev pub capacity_for_new_key : State K V S → Option ℕ
   capacity_for_new_key m = if is_full m then Some (limit + 1) else capacity_for_growth m
 
-  -- the capacity that an insertion of k needs, if it needs more: for the switch, or for a new key
+  -- the capacity that an insertion of k needs: that of a new key, or, if k is held, only that of a full vector
   abbrev pub capacity_for_insert : (K → K → Bool) → State K V S → K → Option ℕ
   capacity_for_insert eq m k = if is_full m then Some (limit + 1) else (if holds eq m.pairs k then None else capacity_for_growth m)
 
@@ -51,12 +51,12 @@ module _ {K V S : Type 0} (limit : ℕ) where
 
   -- a granted reservation for this many pairs more: the capacity is enough for them; in a vector for no more pairs in all than the limit
   pub record IsReserved (old : State K V S) (additional : ℕ) (new : State K V S) : Type 0 where
-    pub enough : pairs_capped limit old.is_vec (length old.pairs + additional) ≤ new.capacity
+    pub enough : wanted_capacity limit old.is_vec (length old.pairs + additional) ≤ new.capacity
     pub only_capacity : KeepsPairs old.is_vec old (capacity_for_reserve limit old additional) new
 
   -- a reservation for this many pairs more: it is granted, or it is refused and nothing has changed
   pub record ReservesOrRefuses (eq : K → K → Bool) (old : State K V S) (additional : ℕ) (result : Result (Unit {0}) Refusal) (new : State K V S) : Type 0 where
-    pub ok : OnOk result (IsReserved old additional new)
+    pub reserves : OnOk result (IsReserved old additional new)
     pub succeeds : capacity_for_reserve limit old additional ≡ None → IsOk result
     pub refused : IfErr result (IsRefusal (capacity_for_reserve limit old additional))
     pub unchanged : OnErr result (new ≡ old)

@@ -34,7 +34,7 @@ module _ {K V S : Type 0} where
     pub record PutsOrHandsBack (result : Result (Option V) (Refused K V)) (new : State K V S) : Type 0 where
       pub old_value : IfOk result (λ before. before ≡ value_of eq old.pairs k)
       pub put : OnOk result (HasPut eq old.pairs k v new.pairs)
-      pub ok : OnOk result (Puts limit eq old k v (capacity_for_insert limit eq old k) new)
+      pub puts : OnOk result (Puts limit eq old k v (capacity_for_insert limit eq old k) new)
       pub succeeds : capacity_for_insert limit eq old k ≡ None → IsOk result
       pub returned : IfErr result (HandsBack old k v (capacity_for_insert limit eq old k) new)
       pub valid : IsValid limit eq new
@@ -47,7 +47,7 @@ module _ {K V S : Type 0} where
     -- an insertion of (k, v) without a search for k, which is not held
     pub record PutsNewKeyOrHandsBack (result : Result (Unit {0}) (Refused K V)) (new : State K V S) : Type 0 where
       pub put : OnOk result (HasPut eq old.pairs k v new.pairs)
-      pub ok : OnOk result (Puts limit eq old k v (capacity_for_new_key limit old) new)
+      pub puts : OnOk result (Puts limit eq old k v (capacity_for_new_key limit old) new)
       pub succeeds : capacity_for_new_key limit old ≡ None → IsOk result
       pub returned : IfErr result (HandsBack old k v (capacity_for_new_key limit old) new)
       pub valid : IsValid limit eq new

@@ -33,7 +33,7 @@ module _ {K V S : Type 0} (is_builder : S → Type 0) where
 
     -- such a map, or the reason why the capacity was refused
     pub record MakesOrRefuses (result : Result (State K V S) Refusal) : Type 0 where
-      pub ok : IfOk result IsEmptyFor
+      pub empty : IfOk result IsEmptyFor
       pub succeeds : capacity_for_making needed ≡ None → IsOk result
       pub refused : IfErr result (IsRefusal (capacity_for_making needed))
 

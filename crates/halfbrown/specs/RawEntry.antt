@@ -67,7 +67,7 @@ module _ {K V S L H : Type 0} {e : EqGhosts K} {h : HashGhosts K} {b : HasherGho
   -- what `raw_entry_mut` returns: if it is granted the same map, with capacity for one pair more; if it is refused the reason
   pub record PreparesRawEntries (m : MutBor (State K V S)) (result : Result (RawEntryBuilderMut K V S L H e h b l) Refusal) : Type 0 where
     pub same_map : IfOk result (λ prepared. (prepared_map_ref prepared).ghost_name ≡ m.ghost_name)
-    pub ok : IfOk result (λ prepared. Prepares limit m.now (capacity_for_new_key limit m.now) (prepared_map prepared))
+    pub prepares : IfOk result (λ prepared. Prepares limit m.now (capacity_for_new_key limit m.now) (prepared_map prepared))
     pub capacity : IfOk result (λ prepared. length (prepared_map prepared).pairs < (prepared_map prepared).capacity)
     pub succeeds : capacity_for_new_key limit m.now ≡ None → IsOk result
     pub refused : IfErr result (IsRefusal (capacity_for_new_key limit m.now))

@@ -10,7 +10,7 @@ loop-key-preserved c =
     let i = c.loop-key.key-index in
     let k = get_or keys i 0 in
     let was = c.loop-key.invariant in
-    let puts = c.in_ok-insert.ensures.ok in
+    let puts = c.in_ok-insert.ensures.puts in
     let m = c.insert.new.self in
     let more = ap (with_keys m) (take_more keys i 0 c.loop-key-test.true) ∙ fold-append (with_key m) _ (take i keys) (k ∷ []) in
     record {

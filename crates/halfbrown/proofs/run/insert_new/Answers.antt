@@ -22,7 +22,7 @@ returns-in-Ok g c =
     let searched = key_costs g.K.PartialEq.eq g.S.KeyHasher.hash c.args.map.now c.args.key _ _ _ law c.contains_key_counted.ensures.cost in
     let held = sym c.contains_key_counted.ensures.held ∙ c.if-contains_key_counted.false in
     record {
-      step = rw held (refl, c.in-Ok.ensures.inserts.ok);
+      step = rw held (refl, c.in-Ok.ensures.inserts.puts);
       cost = rw held (spent_both _ _ _ _ _ searched.grew c.in-Ok.ensures.cost);
     }
 

@@ -13,7 +13,7 @@ returns-in-Ok g c =
     record {
       step = search rules;
       cost =
-          raw_costs g.L.Limit.LIMIT g.K.PartialEq.eq hash c.args.map.now m key c.in-Ok.ensures.makes.ok
+          raw_costs g.L.Limit.LIMIT g.K.PartialEq.eq hash c.args.map.now m key c.in-Ok.ensures.makes.prepares
           c.in-Ok.ensures.makes.capacity
           c.args.tally.now c.raw_entry_mut_counted.new.tally searched c.or_insert_entry_counted-entry.new.tally c.in-Ok.ensures.cost
           (key_costs g.K.PartialEq.eq hash m key _ _ _ (g.met.S.KeyHasher.hash_is m.builder key) c.from_key_counted-found.ensures.cost)

@@ -20,7 +20,7 @@ returns-in_err-extend_counted-clause-refused g c =
     let after = c.extend_counted.new.self in
     let before = c.args.tally.now in
     let refused = c.in_err-extend_counted.ensures.refused in
-    let is_made = made_with g.S.Default.is_default c.default.ensures c.in_ok-map.ensures.makes.ok in
+    let is_made = made_with g.S.Default.is_default c.default.ensures c.in_ok-map.ensures.makes.empty in
     let given = Gives g.I.Iterator.next_gives in
     let counted = subst (λ it. (insertion : InsertRefused L E (given it) made why after)
     × TallyGrewBy (refused_cost L E H insertion) before c.extend_counted.new.tally)
@@ -33,7 +33,7 @@ returns-clause-collected g c =
     let L = g.L.Limit.LIMIT in
     let E = g.K.PartialEq.eq in
     let made = c.in_ok-map.map in
-    let is_made = made_with g.S.Default.is_default c.default.ensures c.in_ok-map.ensures.makes.ok in
+    let is_made = made_with g.S.Default.is_default c.default.ensures c.in_ok-map.ensures.makes.empty in
     let all = c.in_ok-extend_counted.ensures.extended in (
       all.0.gave,
       subst (λ it. Drains g.I.Iterator.next_gives it all.0.gave) all.0.from_items all.0.drained,
