@@ -21,7 +21,7 @@ mod shift;
 use crate::Tally;
 use crate::capacity::capacity_of;
 use crate::words::{WordArray, Words, WordsMut, of_either_size};
-use deletion::{bucket_of, remove_at};
+use deletion::{backward_shift, bucket_of};
 use probe::{first_empty, probe_for};
 use std::marker::Model;
 
@@ -176,10 +176,18 @@ impl Table {
         ensures cost { ReadsWithin (removal_reads_at self.old.hashes self.old.buckets index bucket)
             tally.old tally.new }
     {
-        of_either_size!(
-            &mut self.buckets,
-            buckets => remove_at(buckets, &mut self.hashes, index, bucket, tally)
-        )
+        of_either_size!(&mut self.buckets, buckets => {
+            let last = self.hashes.len() - 1;
+            let last_bucket = if index == last {
+                bucket
+            } else {
+                bucket_of(buckets, self.hashes.as_slice(), last, tally)
+            };
+            buckets.set_word(last_bucket, index + 1);
+            let hash = self.hashes.swap_remove(index);
+            backward_shift(buckets, self.hashes.as_slice(), bucket, tally);
+            hash
+        })
     }
 
     /// Removes all pairs. The capacity stays.

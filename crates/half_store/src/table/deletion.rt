@@ -14,40 +14,6 @@ use super::probe::{home, next};
 use crate::Tally;
 use crate::words::{Words, WordsMut};
 
-/// Removes the pair at this entry index, which stands in this bucket, and returns its stored hash. The last pair takes its index.
-#[inline(always)]
-pub(super) fn remove_at<B: WordsMut>(
-    buckets: &mut B,
-    hashes: &mut Vec<u64>,
-    index: usize,
-    bucket: usize,
-    tally: &mut Tally,
-) -> u64
-    requires indexed { IsIndexed hashes.old.items (B.words buckets.old) }
-    requires within { index < length hashes.old.items }
-    requires at { slice_index (B.words buckets.old) bucket ≡ index + 1 }
-    requires fits { length hashes.old.items ≤ B.most buckets.old }
-    ensures hash { slice_get hashes.old.items index ≡ Some result }
-    ensures hashes { hashes.new.items ≡ swap_remove hashes.old.items index 0 }
-    ensures capacity { vec_capacity hashes.new ≡ vec_capacity hashes.old }
-    ensures indexed { IsIndexed hashes.new.items (B.words buckets.new) }
-    ensures len { length (B.words buckets.new) ≡ length (B.words buckets.old) }
-    ensures most { B.most buckets.new ≡ B.most buckets.old }
-    ensures cost { ReadsWithin (removal_reads_at hashes.old.items (length (B.words buckets.old)) index
-        bucket) tally.old tally.new }
-{
-    let last = hashes.len() - 1;
-    let last_bucket = if index == last {
-        bucket
-    } else {
-        bucket_of(buckets, hashes.as_slice(), last, tally)
-    };
-    buckets.set_word(last_bucket, index + 1);
-    let hash = hashes.swap_remove(index);
-    backward_shift(buckets, hashes.as_slice(), bucket, tally);
-    hash
-}
-
 /// The bucket of the pair at this entry index: where a probe from its stored hash meets the index. It reads fewer buckets than
 /// an unsuccessful probe for that hash.
 #[inline(always)]
@@ -101,7 +67,12 @@ fn if_less(first: usize, second: usize, chosen: usize, other: usize) -> usize
 
 /// Shifts pairs back into a bucket whose pair was removed, the gap. It goes up to the next empty bucket. Each pair on the way
 /// whose home bucket is not after the gap moves into it, and leaves its own bucket as the gap. No gap is read; the last is emptied.
-fn backward_shift<B: WordsMut>(buckets: &mut B, hashes: &[u64], removed: usize, tally: &mut Tally)
+pub(super) fn backward_shift<B: WordsMut>(
+    buckets: &mut B,
+    hashes: &[u64],
+    removed: usize,
+    tally: &mut Tally,
+)
     requires count { IsBucketCount (length (B.words buckets.old)) }
     requires removed { IsIndexedWithGap hashes.now (slice_set (B.words buckets.old) removed 0)
         removed }

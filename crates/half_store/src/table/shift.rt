@@ -7,7 +7,6 @@ ghost use Rattle.half_store.specs.StoreRemoval.{MovesToEnd};
 ghost use Rattle.half_store.specs.Table.{IsIndexed, IsTablePlace};
 
 use super::Table;
-use super::deletion::remove_at;
 use crate::Tally;
 use crate::words::{WordsMut, of_either_size};
 
@@ -22,38 +21,12 @@ impl Table {
         ensures cost { ReadsWithin (self.old.buckets + 2 * reach self.old.hashes self.old.buckets
             (slice_index self.old.hashes index)) tally.old tally.new }
     {
-        of_either_size!(
-            &mut self.buckets,
-            buckets => shift_in(buckets, &mut self.hashes, index, bucket, tally)
-        )
+        let pairs = self.hashes.len();
+        of_either_size!(&mut self.buckets, buckets => move_to_end(buckets, index, pairs, tally));
+        let hash = self.hashes.remove(index);
+        self.hashes.push_reserved(hash);
+        self.remove_at(pairs - 1, bucket, tally);
     }
-}
-
-/// Removes the pair at this entry index, as `Table::shift_remove_at` does.
-fn shift_in<B: WordsMut>(
-    buckets: &mut B,
-    hashes: &mut Vec<u64>,
-    index: usize,
-    bucket: usize,
-    tally: &mut Tally,
-)
-    requires indexed { IsIndexed hashes.old.items (B.words buckets.old) }
-    requires within { index < length hashes.old.items }
-    requires at { slice_index (B.words buckets.old) bucket ≡ index + 1 }
-    requires fits { length hashes.old.items ≤ B.most buckets.old }
-    ensures hashes { hashes.new.items ≡ remove hashes.old.items index }
-    ensures capacity { vec_capacity hashes.new ≡ vec_capacity hashes.old }
-    ensures indexed { IsIndexed hashes.new.items (B.words buckets.new) }
-    ensures len { length (B.words buckets.new) ≡ length (B.words buckets.old) }
-    ensures most { B.most buckets.new ≡ B.most buckets.old }
-    ensures cost { ReadsWithin (length (B.words buckets.old) + 2 * reach hashes.old.items
-        (length (B.words buckets.old)) (slice_index hashes.old.items index)) tally.old tally.new }
-{
-    move_to_end(buckets, index, hashes.len(), tally);
-    let hash = hashes.remove(index);
-    let last = hashes.len();
-    hashes.push_reserved(hash);
-    remove_at(buckets, hashes, last, bucket, tally);
 }
 
 /// Makes the pair at this entry index the last one, as far as the buckets go: each pair behind it gets the index before its own.

@@ -220,7 +220,9 @@ impl<'a, K: Eq + Hash, V, S: KeyHasher<K>, L: Limit> OccupiedEntry<'a, K, V, S, 
             (pairs_without (occupied self.entry)) self.exit.0.now }
         ensures valid { IsValid L.LIMIT K.eq self.exit.0.now }
     {
-        self.remove_entry().1
+        let index = self.index;
+        let bucket = self.bucket;
+        self.map.take_at(Found { index, bucket }).1
     }
 
     /// Removes the pair, and returns the stored key and the value. The last pair takes its index. Nothing is hashed or

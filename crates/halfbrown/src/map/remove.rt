@@ -38,8 +38,11 @@ impl<K: Eq + Hash, V, S: KeyHasher<K>, L: Limit> LimitedHashMap<K, V, S, L> {
         ensures cost { IsLookupCost S.KeyHasher Q.hash_input Q.equivalent key self.old
             tally.old tally.new }
     {
-        let (_, value) = self.remove_entry_counted(key, tally)?;
-        Some(value)
+        let hash = self.hash_in_table(&key, tally);
+        match self.find_hashed(hash, key, Scan::ByKey, tally) {
+            Ok(found) => Some(self.take_at(found).1),
+            Err(_) => None,
+        }
     }
 
     /// Removes the pair of the held key that equals this one, and returns the stored key and its value. The last pair takes
