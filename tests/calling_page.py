@@ -16,7 +16,8 @@ TYPES = {"halfbrown": "LimitedHashMap", "half_set": "HashSet", "json_value": "Va
 # No clause or field of such a name is printed, and no starred clause.
 LEFT_OUT = re.compile(r"(?:(?:requires|ensures) ?)?(?:\*|(?:cost|keeps|runs|same_map|small|valid|values_run)\b)")
 # Such a word is not printed: a line by hand says in short what it says, or no caller has to know it.
-NOT_OPENED = """ArePairClones IsDefaultBuilder CollectIterRefused InsertsUntilRefused SameEntry ShiftRemoves State""".split()
+NOT_OPENED = """ArePairClones IsDefaultBuilder CollectIterRefused InsertsAll InsertsUntilRefused PutsOrHandsBackWithIndex SameEntry
+    ShiftRemoves State""".split()
 DEFINITION = re.compile(
     r"^((?: *--.*\n)*)( *)(pub record|pub data|abbrev pub|unfoldable pub) (\w+)(.*)\n((?:\2 +\S.*\n|\2\4 .*\n)*)", re.M
 )
