@@ -1,12 +1,12 @@
 //! The calls on a map as a whole.
 
-use crate::answer::{of_bool, said};
+use crate::answer::{Answer, Answered, of_bool, said};
 use crate::items::{Named, Number, Ruled, add_to};
 use crate::player::Player;
 use crate::printing::{print_lost, print_map};
 use crate::walks::take;
 use crate::words::Words;
-use halfbrown::{Limit, Refusal};
+use halfbrown::Limit;
 use std::io;
 
 impl<R: Print, K: Named, V: Number, S: Ruled, L: Limit> Player<'_, R, K, V, S, L> {
@@ -27,9 +27,8 @@ impl<R: Print, K: Named, V: Number, S: Ruled, L: Limit> Player<'_, R, K, V, S, L
             "state" => return self.print_own(),
             "pairs" => return self.print_both(),
             "reserve" | "raw_entry_mut" => {
-                if let Err(why) = self.make_ready(call, words) {
-                    return self.say(Err(why.into()));
-                }
+                let answered = self.make_ready(call, words);
+                return self.say(answered);
             }
             "walk" => return self.walk(call, words.next(), words),
             _ => return self.place(call, words),
@@ -38,11 +37,13 @@ impl<R: Print, K: Named, V: Number, S: Ruled, L: Limit> Player<'_, R, K, V, S, L
     }
 
     // Raw entries are dropped unused.
-    fn make_ready(&mut self, call: &str, words: &Words<'_>) -> Result<(), Refusal> {
-        match call {
-            "reserve" => self.a.reserve(words.count()),
-            _ => self.a.raw_entry_mut().map(drop),
+    fn make_ready(&mut self, call: &str, words: &Words<'_>) -> Answered<Answer> {
+        if call == "reserve" {
+            self.a.reserve(words.count())?;
+        } else {
+            let _unused = self.a.raw_entry_mut()?;
         }
+        Ok(said("done"))
     }
 
     fn iter_mut(&mut self, more: u64) {
