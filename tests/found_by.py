@@ -46,7 +46,7 @@ def build_witness(copy, first_lines):
     only if they are named."""
     script = copy / "crates/witness/src/script.rt"
     kinds, limits = zip(*first_lines)
-    arm = re.compile(r'^ +"(\d+)" => self\.\w+::<.*>\(.*\),\n', re.M)
+    arm = re.compile(r'^ +"(\d+)"(?: if .*)? => self\.\w+::<.*>\(.*\),\n', re.M)
     text = arm.sub(lambda it: it[0] if int(it[1]) in map(int, limits) else "", script.read_text())
     script.write_text(text if "owning" in kinds else re.sub(r'^ +"owning" => .*\n', "", text, flags=re.M))
     return build(copy, "witness")

@@ -26,6 +26,8 @@ RULES_OFTEN = ("plain", *RULES)
 STATES_OFTEN = ("vec", "vec", "table", *["tight vec"] * 4, *["full vec"] * 3, *["full table"] * 5, *["went back"] * 4)
 NUMBERS = (0, 0, 0, 1, 1, 2, 3, 4, 5, 7, 12, 31, 32, 100, GREATEST)
 SIZES = (0, 1, 2, 3, 5, 6, 7, 12, 13, 33, 50)
+# No key has it.
+NO_ID = 10**15
 # Sizes that are refused.
 TOO_GREAT = (MOST_PAIRS, MOST_PAIRS + 1, 2**63, GREATEST)
 ADDING = ("insert KEY V", "insert_nocheck KEY V", "entry KEY or_insert V", "raw KEY add V", "run insert_new KEY V is_vec")
@@ -92,7 +94,7 @@ class Script:
     def which(self, id_):
         """What a match accepts. In a table `any` is determined if no two keys have one hash."""
         is_determined = self.rule == "plain" or self.limit >= MOST_PAIRS
-        return self.chance.choice((id_, id_, id_, "none", "any" if is_determined else "none"))
+        return self.chance.choice((id_, id_, id_, NO_ID, "any" if is_determined else NO_ID))
 
     def items(self, most):
         ids = [self.chance.choice((self.any_id, self.held_id))() for _ in range(self.chance.randrange(most + 1))]

@@ -6,8 +6,8 @@ say too little:
     index QUERY                   map[&key]; not held, where it is not called
     insert_nocheck KEY V          held, where it is not called
     NAME_hashed QUERY             handed the builder's hash, which is not counted
-    NAME_match HASH WHICH         from_hash; its match accepts the key of the ID WHICH, any or none, and each call of it
-                                  counts as a comparison
+    NAME_match HASH WHICH         from_hash; its match accepts the key of the ID WHICH, or `any`, and each call of it counts
+                                  as a comparison
     raw_find QUERY                a search by raw_entry_mut()
     entry KEY ACTION              a call on the entry, or vacant or occupied, if ACTION is for the other kind
       and_modify N V              and_modify, and then or_insert(V)
@@ -30,7 +30,7 @@ say too little:
 `for_value` are `into_iter` of `&a`, `&mut a` and `a`. The step `add` is `next`, whose value is increased by 1, and
 `each` or `each:N` is a `for` loop over what is left, or over N items.
 
-`run COMMAND ..` lists the replies: `[was none; length 1; refused memory insert 1#1 10]`. It needs `map` or `small`, as
+`run COMMAND ..` lists the replies: `[Was(None), Length(1), Refused(Insert(1#1, 10), Memory)]`. It needs `map` or `small`, as
 `or_default` does.
 """
 
@@ -90,8 +90,7 @@ def read_query(word):
 
 
 def read_which(word):
-    """An ID, which no key has for `none`."""
-    return word if word == "any" else None if word == "none" else int(word)
+    return word if word == "any" else int(word)
 
 
 def read_maker(word):

@@ -53,7 +53,7 @@ class Session:
             answer = refusal_of(pattern, said, why)
         gone = held + work.cloned - self.held()
         dropped = f"dropped {keys_in(said) + gone} {values_in(pattern, said) + gone if self.kind == 'owning' else 0}"
-        called = f" | called {work.called}" if pattern.endswith(" *") else ""
+        called = f" | called {work.called}" if work.called else ""
         memory = f"requests {work.requests} | peak {work.peak_bytes()}"
         if pattern in WITH_TEXT:
             memory = f"requests 0..1000 | peak 0..{GREATEST}"

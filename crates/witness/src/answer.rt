@@ -2,7 +2,7 @@
 
 use crate::items::{Named, Number};
 use crate::words::Name;
-use halfbrown::{Refusal, RefusedKey};
+use halfbrown::{Refusal, Refused, RefusedKey};
 use std::fmt;
 
 /// The answer of a call: words, a key and a value, each where it has one. Keys and values are dropped by then, and it has
@@ -13,6 +13,9 @@ pub(crate) struct Answer {
     key: Option<Name>,
     value: Option<u64>,
 }
+
+/// What a call goes on with, or its answer if it ends there.
+pub(crate) type Answered<T> = Result<T, Answer>;
 
 /// An answer of these words, to which a key or a value may be added.
 pub(crate) fn said(words: &'static str) -> Answer {
@@ -25,19 +28,15 @@ pub(crate) fn said(words: &'static str) -> Answer {
 
 impl Answer {
     /// With this key.
-    pub(crate) fn key<K: Named>(self, key: &K) -> Answer {
-        Answer {
-            key: Some(key.name()),
-            ..self
-        }
+    pub(crate) fn key<K: Named>(mut self, key: &K) -> Answer {
+        self.key = Some(key.name());
+        self
     }
 
     /// With this value.
-    pub(crate) fn value<V: Number>(self, value: &V) -> Answer {
-        Answer {
-            value: Some(value.number()),
-            ..self
-        }
+    pub(crate) fn value<V: Number>(mut self, value: &V) -> Answer {
+        self.value = Some(value.number());
+        self
     }
 
     /// With this pair.
@@ -47,95 +46,75 @@ impl Answer {
 }
 
 /// A pair that is lent to be read.
-pub(crate) fn of_shown<K: Named, V: Number>(pair: (&K, &V)) -> Answer {
-    let (key, value) = pair;
+pub(crate) fn of_shown<K: Named, V: Number>((key, value): (&K, &V)) -> Answer {
     said("").pair(key, value)
 }
 
 /// A pair whose value is lent to be written.
-pub(crate) fn of_lent<K: Named, V: Number>(pair: (&K, &mut V)) -> Answer {
-    let (key, value) = pair;
+pub(crate) fn of_lent<K: Named, V: Number>((key, value): (&K, &mut V)) -> Answer {
     said("").pair(key, value)
 }
 
 /// A pair that is handed over.
-pub(crate) fn of_taken<K: Named, V: Number>(pair: (K, V)) -> Answer {
-    let (key, value) = pair;
+pub(crate) fn of_taken<K: Named, V: Number>((key, value): (K, V)) -> Answer {
     said("").pair(&key, &value)
 }
 
-/// The pair, or none.
-pub(crate) fn of_pair<K: Named, V: Number>(pair: Option<(&K, &V)>) -> Answer {
-    match pair {
-        Some(pair) => of_shown(pair),
-        None => said("none"),
-    }
+/// A value.
+pub(crate) fn of_value<V: Number>(value: &V) -> Answer {
+    said("").value(value)
 }
 
-/// A pair that was removed, or none.
-pub(crate) fn of_removed<K: Named, V: Number>(removed: Option<(K, V)>) -> Answer {
-    match removed {
-        Some(pair) => of_taken(pair),
-        None => said("none"),
-    }
+/// An index.
+pub(crate) fn of_index(index: usize) -> Answer {
+    said("").value(&(index as u64))
 }
 
-/// The value, or none.
-pub(crate) fn of_value<V: Number>(value: Option<&V>) -> Answer {
-    match value {
-        Some(value) => said("").value(value),
-        None => said("none"),
-    }
+/// A value that was replaced.
+pub(crate) fn was<V: Number>(old: V) -> Answer {
+    said("was").value(&old)
 }
 
-/// The value that was replaced, or none.
-pub(crate) fn was<V: Number>(old: Option<V>) -> Answer {
-    match old {
-        Some(old) => said("was").value(&old),
-        None => said("none"),
-    }
+/// The answer, or none.
+pub(crate) fn or_none(answer: Option<Answer>) -> Answer {
+    answer.unwrap_or(said("none"))
 }
 
 /// Writes a value where one is lent, and answers the one that was there.
 pub(crate) fn written<V: Number>(held: Option<&mut V>, value: V) -> Answer {
     match held {
-        Some(held) => was(Some(std::mem::replace(held, value))),
+        Some(held) => was(std::mem::replace(held, value)),
         None => said("none"),
     }
-}
-
-/// An index, or none.
-pub(crate) fn of_index(index: Option<usize>) -> Answer {
-    match index {
-        Some(index) => said("").value(&(index as u64)),
-        None => said("none"),
-    }
-}
-
-/// Why a call was refused.
-pub(crate) fn refused(why: Refusal) -> Answer {
-    match why {
-        Refusal::Memory => said("refused memory"),
-        Refusal::Size => said("refused size"),
-    }
-}
-
-/// What was answered, or why it was refused.
-pub(crate) fn or_refused(answered: Result<Answer, Refusal>) -> Answer {
-    match answered {
-        Ok(answer) => answer,
-        Err(why) => refused(why),
-    }
-}
-
-/// Why an entry was refused, and the key that was handed back.
-pub(crate) fn refused_key<K: Named>(back: &RefusedKey<K>) -> Answer {
-    refused(back.why).key(&back.key)
 }
 
 /// True or false.
 pub(crate) fn of_bool(truth: bool) -> Answer {
     said(if truth { "true" } else { "false" })
+}
+
+/// Why a call was refused.
+impl From<Refusal> for Answer {
+    fn from(why: Refusal) -> Answer {
+        match why {
+            Refusal::Memory => said("refused memory"),
+            Refusal::Size => said("refused size"),
+        }
+    }
+}
+
+/// The same, and the key that was handed back.
+impl<K: Named> From<RefusedKey<K>> for Answer {
+    fn from(back: RefusedKey<K>) -> Answer {
+        Answer::from(back.why).key(&back.key)
+    }
+}
+
+/// The same, and the pair that was handed back.
+impl<K: Named, V: Number> From<Refused<K, V>> for Answer {
+    fn from(back: Refused<K, V>) -> Answer {
+        Answer::from(back.why).pair(&back.key, &back.value)
+    }
 }
 
 impl fmt::Debug for Answer {

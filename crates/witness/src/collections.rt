@@ -3,7 +3,7 @@ ghost use Rattle.std.specs.Prelude.{◌+◌, List, length};
 ghost use Rattle.std.specs.Iterator.{at_most};
 ghost use Rattle.std.specs.Vec.Iter.{into_iter_items};
 
-use crate::answer::refused;
+use crate::answer::{Answer, said};
 use crate::items::{Named, Number, Ruled};
 use crate::player::Player;
 use crate::printing::{print_map, print_state};
@@ -13,7 +13,7 @@ use std::alloc::{AllocError, Global};
 use std::hash::{BuildHasher, Hash};
 use std::{io, vec};
 
-/// A map, or why there is none. Most functions below are of any builder: at a known one their proofs take longer.
+/// A map, or why there is none. Functions below are of any builder: at a known one their proofs take longer.
 type Made<K, V, S, L> = Result<LimitedHashMap<K, V, S, L>, Refusal>;
 
 /// Items with a size hint of their own, which may be wrong.
@@ -42,38 +42,46 @@ impl<R: Print, K: Named, V: Number, S: Ruled, L: Limit> Player<'_, R, K, V, S, L
     /// Adds the pairs that the words write, and prints the answer.
     pub(crate) fn extend(&mut self, call: &str, words: &Words<'_>) -> io::Result<()> {
         let items = self.items(words)?;
-        self.mark();
         let is_done = match call {
             "extend" => self.a.extend(items).is_ok(),
             _ => extend_by(&mut self.a, items).is_ok(),
         };
-        print!(self.rt; "{}", if is_done { "done" } else { "refused" })
+        self.say(Ok(said(if is_done { "done" } else { "refused" })))
     }
 
     /// Makes a map of the pairs, and prints it. None of its work is counted.
     pub(crate) fn collect(&mut self, call: &str, words: &Words<'_>) -> io::Result<()> {
         let operand = match call {
             "made" | "from_iter_hint" => words.next(),
-            _ => "",
+            _ => "0",
         };
         let items = self.items(words)?;
-        self.mark();
-        print_collected::<K, V, L>(self.rt, self.alloc, call, operand, items, words)?;
+        let (rt, alloc) = (self.rt, self.alloc);
+        match call {
+            "hashmap" => print_made(rt, of_macro(alloc, items))?,
+            "made" => print_insertions(rt, make::<K, V, L>(alloc, operand, words), items)?,
+            _ => {
+                let low = words.number_of(operand) as usize;
+                print_collected::<K, V, DefaultHashBuilder, L>(rt, alloc, call, low, items)?
+            }
+        }
         self.counts.take_work();
         Ok(())
     }
 
+    // The pairs that the words write, for the call that comes next.
     fn items(&self, words: &Words<'_>) -> Result<Vec<(K, V)>, AllocError> {
         let mut items = Vec::new(self.alloc);
         for pair in words.rest().chunks(2) {
             match pair {
                 [name, value] => {
-                    let key = self.some_key.like(self.alloc, words.name_of(name))?;
+                    let key = self.key_of(words.name_of(name))?;
                     items.push((key, self.zero.like(words.number_of(value))))?;
                 }
                 _ => words.refuse(),
             }
         }
+        self.mark();
         Ok(items)
     }
 }
@@ -88,47 +96,31 @@ fn extend_by<K: Drop, V: Drop, E: Extend<(K, V)>>(
     to.extend(items)
 }
 
-fn print_collected<K: Named, V: Number, L: Limit>(
+fn print_collected<K: Named, V: Number, S: BuildHasher + Default + Drop, L: Limit>(
     rt: &impl Print,
     alloc: Global,
     call: &str,
-    operand: &str,
+    low: usize,
     items: Vec<(K, V)>,
-    words: &Words<'_>,
 ) -> io::Result<()> {
     match call {
-        "from_iter" => print_made(rt, of_items::<K, V, DefaultHashBuilder, L>(alloc, items)),
+        "from_iter" => print_made(rt, LimitedHashMap::<K, V, S, L>::from_iter(alloc, items)),
         "from_iter_hint" => {
-            let low = words.number_of(operand) as usize;
+            let items = items.into_iter();
             print_made(
                 rt,
-                of_hinted::<K, V, DefaultHashBuilder, L>(alloc, items, low),
+                LimitedHashMap::<K, V, S, L>::from_iter(alloc, Hinted { items, low }),
             )
         }
-        "from_array" => print_made(rt, of_array::<K, V, DefaultHashBuilder, L>(alloc, items)),
-        "hashmap" => print_made(rt, of_macro(alloc, items)),
-        "collect" => match collect::<K, V, DefaultHashBuilder, L>(alloc, items) {
+        "from_array" => print_made(rt, of_array::<K, V, S, L>(alloc, items)),
+        _ => match items
+            .into_iter()
+            .collect::<LimitedHashMap<K, V, S, L>>(alloc)
+        {
             Ok(map) => print_map(rt, &map),
             Err(_) => print!(rt; "refused"),
         },
-        _ => print_insertions(rt, make::<K, V, L>(alloc, operand, words), items),
     }
-}
-
-fn of_items<K: Eq + Hash + Drop, V: Drop, S: BuildHasher + Default + Drop, L: Limit>(
-    alloc: Global,
-    items: Vec<(K, V)>,
-) -> Made<K, V, S, L> {
-    LimitedHashMap::from_iter(alloc, items)
-}
-
-fn of_hinted<K: Eq + Hash + Drop, V: Drop, S: BuildHasher + Default + Drop, L: Limit>(
-    alloc: Global,
-    items: Vec<(K, V)>,
-    low: usize,
-) -> Made<K, V, S, L> {
-    let items = items.into_iter();
-    LimitedHashMap::from_iter(alloc, Hinted { items, low })
 }
 
 // Of up to four pairs.
@@ -170,13 +162,6 @@ fn of_macro<K: Eq + Hash + Drop, V: Drop>(
     hashmap! {in alloc; a.0 => a.1, b.0 => b.1, c.0 => c.1}
 }
 
-fn collect<K: Eq + Hash + Drop, V: Drop, S: BuildHasher + Default + Drop, L: Limit>(
-    alloc: Global,
-    items: Vec<(K, V)>,
-) -> Result<LimitedHashMap<K, V, S, L>, AllocError> {
-    items.into_iter().collect(alloc)
-}
-
 fn make<K: Eq + Hash, V, L: Limit>(
     alloc: Global,
     maker: &str,
@@ -207,7 +192,7 @@ fn print_made<K: Named, V: Number, S: BuildHasher + Drop, L: Limit>(
 ) -> io::Result<()> {
     match made {
         Ok(map) => print_map(rt, &map),
-        Err(why) => print!(rt; "{:?}", refused(why)),
+        Err(why) => print!(rt; "{:?}", Answer::from(why)),
     }
 }
 
@@ -219,12 +204,12 @@ fn print_insertions<K: Named, V: Number, S: BuildHasher + Drop, L: Limit>(
 ) -> io::Result<()> {
     let mut map = match made {
         Ok(map) => map,
-        Err(why) => return print!(rt; "{:?}", refused(why)),
+        Err(why) => return print!(rt; "{:?}", Answer::from(why)),
     };
     print_state(rt, &map)?;
     for (key, value) in items {
         if let Err(back) = map.insert(key, value) {
-            return print!(rt; "; {:?}", refused(back.why));
+            return print!(rt; "; {:?}", Answer::from(back.why));
         }
         print!(rt; "; ")?;
         print_state(rt, &map)?;

@@ -1,11 +1,10 @@
 //! A clone of the first map, and that compared with a map of another limit and rule, of clones of the second one's pairs.
 //! What clones a map knows its builder, since a clone of another one might hash otherwise.
 
-use crate::answer::{refused, said};
+use crate::answer::{of_bool, said};
 use crate::items::{Named, Number};
 use crate::player::Player;
-use crate::script::rule_of;
-use crate::words::Words;
+use crate::words::{Words, no_line};
 use halfbrown::{AtMost, Limit, LimitedHashMap, Refusal};
 use std::alloc::AllocError;
 use std::io;
@@ -17,23 +16,21 @@ impl<'a, R: Print, K: Named, V: Number, L: Limit> Player<'a, R, K, V, Counting<'
         self.mark();
         match self.a.clone() {
             Ok(clone) => self.b = clone,
-            Err(why) => return self.say(refused(why)),
+            Err(why) => return self.say(Err(why.into())),
         }
-        self.say(said("done"))
+        self.say(Ok(said("done")))
     }
 
     /// Makes the other map, compares it with the first one, and prints the answer. Only the comparison is counted.
     pub(crate) fn print_same(&mut self, call: &str, words: &Words<'_>) -> io::Result<()> {
-        let (limit, Some(rule)) = (words.next(), rule_of(words.next())) else {
-            return words.fail();
-        };
+        let (limit, rule) = (words.next(), words.rule());
         match limit {
             "0" => self.print_same_at::<AtMost<0>>(call, rule),
             "5" => self.print_same_at::<AtMost<5>>(call, rule),
             "18446744073709551615" => {
                 self.print_same_at::<AtMost<18446744073709551615>>(call, rule)
             }
-            _ => words.fail(),
+            _ => no_line(),
         }
     }
 
@@ -47,7 +44,7 @@ impl<'a, R: Print, K: Named, V: Number, L: Limit> Player<'a, R, K, V, Counting<'
             "same_from" => other.same_pairs(&self.a),
             _ => self.a.same_pairs(&other),
         };
-        print!(self.rt; "{is_same}")
+        self.say(Ok(of_bool(is_same)))
     }
 
     // A map of another limit and rule, of clones of the second map's pairs in their order.

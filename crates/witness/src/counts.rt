@@ -11,8 +11,7 @@ pub(crate) struct Counts {
     pub comparisons: Cell<u64>,
     pub dropped_keys: Cell<u64>,
     pub dropped_values: Cell<u64>,
-    /// None if no closure is handed in.
-    pub calls: Cell<Option<u64>>,
+    pub calls: Cell<u64>,
 }
 
 impl Counts {
@@ -21,16 +20,9 @@ impl Counts {
         Counting::new(rule, &self.hashes)
     }
 
-    /// The same counts, for a closure that the line hands in.
-    pub(crate) fn of_closure(&self) -> &Counts {
-        self.calls.set(Some(0));
-        self
-    }
-
     /// A closure of the line was called.
     pub(crate) fn count_call(&self) {
-        let calls = self.calls.get().unwrap_or(0);
-        self.calls.set(Some(calls.saturating_add(1)));
+        add_one(&self.calls);
     }
 
     /// Begins a line.
@@ -38,7 +30,7 @@ impl Counts {
         add_one(&self.lines);
         self.take_work();
         self.take_dropped();
-        self.calls.set(None);
+        self.calls.set(0);
     }
 
     /// How often the builder made a hash and keys were compared. Both begin anew.

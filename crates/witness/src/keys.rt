@@ -38,11 +38,7 @@ impl Named for Key<'_> {
     }
 
     fn like(&self, _alloc: Global, name: Name) -> Result<Self, AllocError> {
-        Ok(Key {
-            name,
-            counts: self.counts,
-            padding: self.padding,
-        })
+        Ok(Key { name, ..*self })
     }
 }
 

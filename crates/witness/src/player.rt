@@ -1,11 +1,11 @@
 //! The two maps of a script, and the line that is played on them.
 
-use crate::answer::Answer;
+use crate::answer::{Answer, Answered};
 use crate::counts::Counts;
 use crate::items::{Named, Number, Ruled};
 use crate::keys::Id;
 use crate::printing::print_state;
-use crate::words::Words;
+use crate::words::{Name, Words};
 use halfbrown::{Equivalent, Limit, LimitedHashMap};
 use std::alloc::{AllocError, Global};
 use std::hash::{BuildHasher, Hash};
@@ -38,9 +38,16 @@ impl<R: Print, K: Named, V: Number, S: Ruled, L: Limit> Player<'_, R, K, V, S, L
         }
     }
 
-    /// The key that the next word writes. Only calls of the maps are refused memory.
+    /// The key that the next word writes, for the call that comes next. Only calls of the maps are refused memory.
     pub(crate) fn key(&self, words: &Words<'_>) -> Result<K, AllocError> {
-        self.some_key.like(self.alloc, words.name())
+        let key = self.key_of(words.name())?;
+        self.mark();
+        Ok(key)
+    }
+
+    /// The key of this name.
+    pub(crate) fn key_of(&self, name: Name) -> Result<K, AllocError> {
+        self.some_key.like(self.alloc, name)
     }
 
     /// The value that the next word writes.
@@ -49,8 +56,10 @@ impl<R: Print, K: Named, V: Number, S: Ruled, L: Limit> Player<'_, R, K, V, S, L
     }
 
     /// Prints an answer.
-    pub(crate) fn say(&self, answer: Answer) -> io::Result<()> {
-        print!(self.rt; "{answer:?}")
+    pub(crate) fn say(&self, answered: Answered<Answer>) -> io::Result<()> {
+        match answered {
+            Ok(answer) | Err(answer) => print!(self.rt; "{answer:?}"),
+        }
     }
 
     /// Begins a line, and returns the words of its call.
@@ -61,30 +70,18 @@ impl<R: Print, K: Named, V: Number, S: Ruled, L: Limit> Player<'_, R, K, V, S, L
         call.split(" ").collect(self.alloc)
     }
 
-    /// Ends a line, whose call has printed its answer.
+    /// Ends a line, whose answer is printed: prints the work since it began, the state of the first map, and what was dropped.
     pub(crate) fn end(&self, words: &Words<'_>) -> io::Result<()> {
         words.check()?;
-        self.print_fields()?;
-        match self.counts.calls.get() {
-            Some(calls) => println!(self.rt; " | called {calls}"),
-            None => println!(self.rt),
-        }
-    }
-
-    /// Prints the answer of a first line.
-    pub(crate) fn print_begun(&self) -> io::Result<()> {
-        print!(self.rt; "made")?;
-        self.print_fields()?;
-        println!(self.rt)
-    }
-
-    // Prints the fields after an answer: the work since the line began, the state of the first map, and what was dropped.
-    fn print_fields(&self) -> io::Result<()> {
         let (hashes, comparisons) = self.counts.take_work();
         let (keys, values) = self.counts.take_dropped();
         print!(self.rt; " | {hashes} {comparisons} | ")?;
         print_state(self.rt, &self.a)?;
-        print!(self.rt; " | dropped {keys} {values}")
+        print!(self.rt; " | dropped {keys} {values}")?;
+        match self.counts.calls.get() {
+            0 => println!(self.rt),
+            calls => println!(self.rt; " | called {calls}"),
+        }
     }
 }
 
@@ -106,30 +103,33 @@ where
             "entry" => self.enter(words),
             "raw" => self.enter_raw(words),
             "insert" | "insert_nocheck" | "insert_full" => self.insert(call, words),
-            "first" | "last" | "pop" | "first_mut" | "last_mut" => self.place(call, words),
-            "get_index" | "get_index_mut" | "get_index_entry" => self.place(call, words),
-            "swap_remove_index" | "shift_remove_index" => self.place(call, words),
+            "get"
+            | "get_key_value"
+            | "contains_key"
+            | "get_index_of"
+            | "index"
+            | "get_mut"
+            | "remove"
+            | "remove_entry"
+            | "remove_entry_hashed"
+            | "shift_remove"
+            | "shift_remove_entry"
+            | "raw_entry"
+            | "raw_entry_hashed"
+            | "raw_find"
+            | "raw_find_hashed" => self.search(call, words),
             "raw_entry_match" | "raw_find_match" => self.search_match(call, words),
-            "raw_entry_debug" => self.print_raw_entries(),
-            "raw_entry_mut_debug" => self.print_raw_entries_mut(),
-            "walk" => self.walk(call, words.next(), words),
-            "iter" | "keys" | "values" | "into_iter" | "into_keys" | "into_values" | "drain" => {
-                self.walk(call, call, words)
-            }
-            "debug" | "debug_iter" | "debug_pretty" | "debug_iter_pretty" => self.print_debug(call),
             "extend" | "extend_by" => self.extend(call, words),
             "from_iter" | "from_iter_hint" | "from_array" | "hashmap" | "collect" | "made" => {
                 self.collect(call, words)
             }
-            "clear" | "shrink_to_fit" | "drop" | "swap" | "same" | "eq" => self.whole(call, words),
-            "raw_entry_mut" | "reserve" | "retain" | "truncate" => self.whole(call, words),
-            "iter_mut" | "values_mut" | "values_slice_mut" => self.whole(call, words),
-            "clone" => self.clone_first(),
             "same_as" | "same_from" => self.print_same(call, words),
-            "state" => self.print_own(),
-            "pairs" => self.print_both(),
             "error" => self.print_error(words),
-            _ => self.search(call, words),
+            "clone" => self.clone_first(),
+            _ => {
+                self.mark();
+                self.whole(call, words)
+            }
         }
     }
 }

@@ -1,8 +1,8 @@
 //! How lists and maps are printed.
 ghost use Rattle.std.specs.Iterator.{IsFinite};
 
+use crate::answer::of_shown;
 use crate::items::{Named, Number};
-use crate::walks::print_pairs;
 use halfbrown::{Limit, LimitedHashMap};
 use std::fmt::Debug;
 use std::hash::BuildHasher;
@@ -75,7 +75,7 @@ pub(crate) fn print_map<K: Named, V: Number, S: BuildHasher, L: Limit>(
 ) -> io::Result<()> {
     print_state(rt, map)?;
     print!(rt; " ")?;
-    print_pairs(rt, map)
+    print_items(rt, &mut map.iter(), usize::MAX, of_shown)
 }
 
 /// Prints each key whose value, looked up, is not the one beside it.

@@ -1,16 +1,15 @@
 //! A script: the line that makes the maps, and the calls after it.
 
-use crate::answer::refused;
+use crate::answer::{Answer, said};
 use crate::counts::Counts;
 use crate::items::{Named, Number};
 use crate::keys::{Id, Key, Small};
 use crate::player::Player;
 use crate::values::{Nothing, Owned};
-use halfbrown::{AtMost, Equivalent, Limit, LimitedHashMap, Refusal};
-use std::alloc::Global;
+use crate::words::{Words, no_line};
+use halfbrown::{AtMost, Equivalent, Limit, LimitedHashMap};
 use std::io;
-use std::io::ErrorKind;
-use test_support::builders::{Counting, Rule};
+use test_support::builders::Counting;
 
 /// What a first line says of the maps, and the lines after it. The kind says what keys and values are.
 #[derive(Drop)]
@@ -19,7 +18,7 @@ struct Script<'a, R> {
     counts: &'a Counts,
     kind: &'a str,
     limit: &'a str,
-    rule: Rule,
+    builder: Counting<'a>,
     capacity: Option<usize>,
     rest: &'a [&'a str],
 }
@@ -29,50 +28,27 @@ pub(crate) fn play<R: Print + AllocGlobal>(rt: &R, counts: &Counts, text: &str) 
     let lines: Vec<&str> = text.lines().collect(rt.alloc())?;
     for (index, line) in lines.iter().enumerate() {
         counts.begin();
-        let words: Vec<&str> = line.split(" ").collect(rt.alloc())?;
-        match parse_first(rt, counts, words.as_slice(), &lines[index + 1..]) {
-            Some(script) if script.begin()? => break,
-            Some(_) => {}
-            None => return no_line(),
+        let all: Vec<&str> = line.split(" ").collect(rt.alloc())?;
+        let words = Words::new(all.as_slice());
+        let script = Script {
+            rt,
+            counts,
+            kind: words.next(),
+            limit: words.next(),
+            builder: counts.builder(words.rule()),
+            capacity: if words.len() > 0 {
+                Some(words.count())
+            } else {
+                None
+            },
+            rest: &lines[index + 1..],
+        };
+        words.check()?;
+        if script.begin()? {
+            break;
         }
     }
     Ok(())
-}
-
-fn parse_first<'a, R>(
-    rt: &'a R,
-    counts: &'a Counts,
-    words: &[&'a str],
-    rest: &'a [&'a str],
-) -> Option<Script<'a, R>> {
-    let (kind, limit, rule, capacity) = match words {
-        [kind, limit, rule] => (kind, limit, rule, None),
-        [kind, limit, rule, capacity] => (kind, limit, rule, Some(capacity.parse().ok()?)),
-        _ => return None,
-    };
-    Some(Script {
-        rt,
-        counts,
-        kind,
-        limit,
-        rule: rule_of(rule)?,
-        capacity,
-        rest,
-    })
-}
-
-/// The rule of this name.
-pub(crate) fn rule_of(word: &str) -> Option<Rule> {
-    Some(match word {
-        "plain" => Rule::Plain,
-        "zero" => Rule::Zero,
-        "top" => Rule::Top,
-        _ => return None,
-    })
-}
-
-fn no_line<T>() -> io::Result<T> {
-    Err(ErrorKind::InvalidInput.into())
 }
 
 impl<R: Print + AllocGlobal> Script<'_, R> {
@@ -93,7 +69,7 @@ impl<R: Print + AllocGlobal> Script<'_, R> {
             "8" => self.begin_plain::<AtMost<8>>(),
             "64" => self.begin_plain::<AtMost<64>>(),
             "1152921504606846976" => self.begin_plain::<AtMost<1152921504606846976>>(),
-            "20" => self.begin_unit::<AtMost<20>>(),
+            "20" if self.kind == "unit" => self.play_others::<Nothing, AtMost<20>>(Nothing),
             _ => no_line(),
         }
     }
@@ -121,13 +97,6 @@ impl<R: Print + AllocGlobal> Script<'_, R> {
     fn begin_plain<L: Limit>(&self) -> io::Result<bool> {
         match self.kind {
             "map" => self.play_plain::<Key<'_>, L>(Key::new(self.counts)),
-            _ => no_line(),
-        }
-    }
-
-    fn begin_unit<L: Limit>(&self) -> io::Result<bool> {
-        match self.kind {
-            "unit" => self.play_others::<Nothing, L>(Nothing),
             _ => no_line(),
         }
     }
@@ -162,11 +131,15 @@ impl<R: Print + AllocGlobal> Script<'_, R> {
         key: K,
         zero: V,
     ) -> io::Result<Option<Player<'_, R, K, V, Counting<'_>, L>>> {
-        let (alloc, builder) = (self.rt.alloc(), self.counts.builder(self.rule));
-        let a = match make_map(alloc, builder, self.capacity) {
+        let (alloc, builder) = (self.rt.alloc(), self.builder);
+        let made = match self.capacity {
+            Some(capacity) => LimitedHashMap::with_capacity_and_hasher(alloc, capacity, builder),
+            None => Ok(LimitedHashMap::with_hasher(alloc, builder)),
+        };
+        let a = match made {
             Ok(map) => map,
             Err(why) => {
-                println!(self.rt; "{:?}", refused(why))?;
+                println!(self.rt; "{:?}", Answer::from(why))?;
                 return Ok(None);
             }
         };
@@ -180,18 +153,8 @@ impl<R: Print + AllocGlobal> Script<'_, R> {
             zero,
             is_refused: false,
         };
-        player.print_begun()?;
+        player.say(Ok(said("made")))?;
+        player.end(&Words::new(&[]))?;
         Ok(Some(player))
-    }
-}
-
-fn make_map<'a, K: Named, V, L: Limit>(
-    alloc: Global,
-    builder: Counting<'a>,
-    capacity: Option<usize>,
-) -> Result<LimitedHashMap<K, V, Counting<'a>, L>, Refusal> {
-    match capacity {
-        Some(capacity) => LimitedHashMap::with_capacity_and_hasher(alloc, capacity, builder),
-        None => Ok(LimitedHashMap::with_hasher(alloc, builder)),
     }
 }

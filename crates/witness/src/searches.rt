@@ -3,7 +3,7 @@ ghost use Rattle.std.specs.Prelude.{◌≡◌};
 ghost use Rattle.halfbrown.specs.Pairs.{holds_by};
 
 use crate::answer::{
-    Answer, of_bool, of_index, of_pair, of_removed, of_value, or_refused, said, written,
+    Answer, Answered, of_bool, of_index, of_shown, of_taken, of_value, or_none, said, was, written,
 };
 use crate::counts::{Counts, add_one};
 use crate::items::{Named, Number, Ruled};
@@ -11,17 +11,8 @@ use crate::keys::Id;
 use crate::player::Player;
 use crate::raw::of_found;
 use crate::words::Words;
-use halfbrown::{Equivalent, Limit, LimitedHashMap, Refusal};
+use halfbrown::{Equivalent, Limit, LimitedHashMap};
 use std::io;
-
-/// The keys that a match accepts.
-#[derive(Clone, Copy)]
-enum Which {
-    Any,
-    None,
-    /// The key of this number.
-    Id(u64),
-}
 
 impl<R: Print, K: Named, V: Number, S: Ruled, L: Limit> Player<'_, R, K, V, S, L> {
     /// Makes the search by the key that the next word writes, or by its number after `@`.
@@ -30,37 +21,42 @@ impl<R: Print, K: Named, V: Number, S: Ruled, L: Limit> Player<'_, R, K, V, S, L
         Id: Equivalent<K>,
     {
         let query = words.next();
-        let answer = match query.strip_prefix("@") {
+        let answered = match query.strip_prefix("@") {
             Some(id) => {
                 self.mark();
                 self.search_by(Id(words.number_of(id)), call, words)
             }
             None => {
-                let key = self.some_key.like(self.alloc, words.name_of(query))?;
+                let key = self.key_of(words.name_of(query))?;
                 self.mark();
                 self.search_by(&key, call, words)
             }
         };
-        self.say(answer)
+        self.say(answered)
     }
 
-    fn search_by<Q: Equivalent<K>>(&mut self, query: Q, call: &str, words: &Words<'_>) -> Answer {
+    fn search_by<Q: Equivalent<K>>(
+        &mut self,
+        query: Q,
+        call: &str,
+        words: &Words<'_>,
+    ) -> Answered<Answer> {
         let map = &mut self.a;
-        match call {
-            "get" => of_value(map.get(query)),
-            "get_key_value" => of_pair(map.get_key_value(query)),
+        Ok(match call {
+            "get" => or_none(map.get(query).map(of_value)),
+            "get_key_value" => or_none(map.get_key_value(query).map(of_shown)),
             "contains_key" => of_bool(map.contains_key(query)),
-            "get_index_of" => of_index(map.get_index_of(query)),
+            "get_index_of" => or_none(map.get_index_of(query).map(of_index)),
             "index" => self.index(query),
             "get_mut" => written(map.get_mut(query), self.zero.like(words.number())),
-            "remove" => of_value(map.remove(query).as_ref()),
-            "remove_entry" => of_removed(map.remove_entry(query)),
-            "shift_remove" => of_value(map.shift_remove(query).as_ref()),
-            "shift_remove_entry" => of_removed(map.shift_remove_entry(query)),
-            "raw_entry" => of_pair(map.raw_entry().from_key(query)),
-            "raw_find" => or_refused(self.raw_find(query)),
-            _ => self.search_hashed(query, call, words),
-        }
+            "remove" => or_none(map.remove(query).as_ref().map(of_value)),
+            "remove_entry" => or_none(map.remove_entry(query).map(of_taken)),
+            "shift_remove" => or_none(map.shift_remove(query).as_ref().map(of_value)),
+            "shift_remove_entry" => or_none(map.shift_remove_entry(query).map(of_taken)),
+            "raw_entry" => or_none(map.raw_entry().from_key(query).map(of_shown)),
+            "raw_find" => return self.raw_find(query),
+            _ => return self.search_hashed(query, call),
+        })
     }
 
     // Only if the key is held.
@@ -72,108 +68,95 @@ impl<R: Print, K: Named, V: Number, S: Ruled, L: Limit> Player<'_, R, K, V, S, L
     }
 
     /// The pair that is found by a query, through a raw entry.
-    pub(crate) fn raw_find<Q: Equivalent<K>>(&mut self, query: Q) -> Result<Answer, Refusal> {
+    pub(crate) fn raw_find<Q: Equivalent<K>>(&mut self, query: Q) -> Answered<Answer> {
         Ok(of_found(self.a.raw_entry_mut()?.from_key(query)))
     }
 
-    fn search_hashed<Q: Equivalent<K>>(
-        &mut self,
-        query: Q,
-        call: &str,
-        words: &Words<'_>,
-    ) -> Answer {
+    fn search_hashed<Q: Equivalent<K>>(&mut self, query: Q, call: &str) -> Answered<Answer> {
         let map = &mut self.a;
         let hash = map.hasher().hash_one(query);
         self.counts.take_work();
-        match call {
-            "remove_entry_hashed" => of_removed(map.remove_entry_hashed_nocheck(hash, query)),
-            "raw_entry_hashed" => of_pair(map.raw_entry().from_key_hashed_nocheck(hash, query)),
-            "raw_find_hashed" => or_refused(self.raw_find_hashed(query)),
-            _ => words.no_call(),
-        }
+        Ok(match call {
+            "remove_entry_hashed" => {
+                or_none(map.remove_entry_hashed_nocheck(hash, query).map(of_taken))
+            }
+            "raw_entry_hashed" => {
+                or_none(
+                    map.raw_entry()
+                        .from_key_hashed_nocheck(hash, query)
+                        .map(of_shown),
+                )
+            }
+            _ => of_found(map.raw_entry_mut()?.from_key_hashed_nocheck(hash, query)),
+        })
     }
 
-    fn raw_find_hashed<Q: Equivalent<K>>(&mut self, query: Q) -> Result<Answer, Refusal> {
-        let hash = self.a.hasher().hash_one(query);
-        self.counts.take_work();
-        Ok(of_found(self.a.raw_entry_mut()?.from_key_hashed_nocheck(hash, query)))
-    }
-
-    /// Makes the search by a hash and the keys that its match accepts.
+    /// Makes the search by a hash and a match, which accepts any key or that of a number.
     pub(crate) fn search_match(&mut self, call: &str, words: &Words<'_>) -> io::Result<()> {
         let hash = words.number();
         let which = match words.next() {
-            "any" => Which::Any,
-            "none" => Which::None,
-            id => Which::Id(words.number_of(id)),
+            "any" => None,
+            id => Some(words.number_of(id)),
         };
         self.mark();
-        let answer = match call {
-            "raw_entry_match" => self.raw_entry_match(hash, which),
-            _ => or_refused(self.raw_find_match(hash, which)),
+        let answered = match call {
+            "raw_entry_match" => Ok(self.raw_entry_match(hash, which)),
+            _ => self.raw_find_match(hash, which),
         };
-        self.say(answer)
+        self.say(answered)
     }
 
-    fn raw_entry_match(&self, hash: u64, which: Which) -> Answer {
-        let counts = self.counts;
-        of_pair(
-            self.a
-                .raw_entry()
-                .from_hash(hash, |held| accepts(which, counts, held)),
+    fn raw_entry_match(&self, hash: u64, which: Option<u64>) -> Answer {
+        let (counts, entries) = (self.counts, self.a.raw_entry());
+        or_none(
+            entries
+                .from_hash(hash, |held| accepts(which, counts, held))
+                .map(of_shown),
         )
     }
 
-    fn raw_find_match(&mut self, hash: u64, which: Which) -> Result<Answer, Refusal> {
+    fn raw_find_match(&mut self, hash: u64, which: Option<u64>) -> Answered<Answer> {
         let (counts, entries) = (self.counts, self.a.raw_entry_mut()?);
         Ok(of_found(entries.from_hash(hash, |held| accepts(which, counts, held))))
     }
 
     /// Makes a call by the order of the pairs, and prints the answer.
     pub(crate) fn place(&mut self, call: &str, words: &Words<'_>) -> io::Result<()> {
-        self.mark();
         let map = &mut self.a;
         let answer = match call {
-            "first" => of_pair(map.first()),
-            "last" => of_pair(map.last()),
-            "pop" => of_removed(map.pop()),
+            "first" => or_none(map.first().map(of_shown)),
+            "last" => or_none(map.last().map(of_shown)),
+            "pop" => or_none(map.pop().map(of_taken)),
             "first_mut" => written(map.first_mut(), self.zero.like(words.number())),
             "last_mut" => written(map.last_mut(), self.zero.like(words.number())),
-            "get_index" => of_pair(map.get_index(words.count())),
-            "swap_remove_index" => of_removed(map.swap_remove_index(words.count())),
-            "shift_remove_index" => of_removed(map.shift_remove_index(words.count())),
-            "get_index_mut" => {
-                written(
-                    map.get_index_mut(words.count()),
-                    self.zero.like(words.number()),
-                )
-            }
-            "get_index_entry" => { write_at(map, words.count(), self.zero.like(words.number())) }
-            _ => words.no_call(),
+            "get_index" => or_none(map.get_index(words.count()).map(of_shown)),
+            "swap_remove_index" => or_none(map.swap_remove_index(words.count()).map(of_taken)),
+            "shift_remove_index" => or_none(map.shift_remove_index(words.count()).map(of_taken)),
+            "get_index_mut" | "get_index_entry" => self.write_at(call, words.count(), words),
+            _ => return self.walk(call, call, words),
         };
-        self.say(answer)
+        self.say(Ok(answer))
     }
-}
 
-// Writes a value by `insert` of the entry at an index.
-fn write_at<K: Named, V: Number, S: Ruled, L: Limit>(
-    map: &mut LimitedHashMap<K, V, S, L>,
-    index: usize,
-    value: V,
-) -> Answer {
-    match map.get_index_entry(index) {
-        Some(mut entry) => said("was").value(&entry.insert(value)),
-        None => said("none"),
+    // Writes a value at an index, where one is lent or by `insert` of the entry.
+    fn write_at(&mut self, call: &str, index: usize, words: &Words<'_>) -> Answer {
+        let value = self.value(words);
+        if call == "get_index_mut" {
+            return written(self.a.get_index_mut(index), value);
+        }
+        match self.a.get_index_entry(index) {
+            Some(mut entry) => was(entry.insert(value)),
+            None => said("none"),
+        }
     }
 }
 
 // Each call is one comparison.
-fn accepts<K: Named>(which: Which, counts: &Counts, held: &K) -> bool {
+fn accepts<K: Named>(which: Option<u64>, counts: &Counts, held: &K) -> bool {
     add_one(&counts.comparisons);
     match which {
-        Which::Any => true,
-        Which::None => false,
-        Which::Id(id) => held.name().id == id,
+        Some(id) => held.name().id == id,
+        None => true,
     }
 }
 

@@ -36,11 +36,7 @@ impl Number for Owned<'_> {
     }
 
     fn like(&self, number: u64) -> Self {
-        Owned {
-            number,
-            counts: self.counts,
-            padding: self.padding,
-        }
+        Owned { number, ..*self }
     }
 }
 

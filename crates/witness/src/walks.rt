@@ -1,147 +1,85 @@
-//! The iterators of a map: lists of what they give, and calls on them.
+//! The iterators of a map: lists of what they give, calls on them, and texts.
+ghost use Rattle.std.specs.Iterator.{IsFinite};
 
-use crate::answer::{of_lent, of_pair, of_removed, of_shown, of_taken};
+use crate::answer::{Answer, of_lent, of_shown, of_taken};
 use crate::entries::{of_more, of_pair_more};
 use crate::items::{Named, Number, Ruled};
 use crate::player::Player;
 use crate::printing::{gap_before, print_in_one_line, print_item, print_items};
-use crate::words::Words;
+use crate::words::{Words, no_line};
 use halfbrown::{Column, Drain, IntoIter, Iter, IterMut, Limit, LimitedHashMap, ValuesMut};
 use std::alloc::Global;
 use std::fmt::Debug;
-use std::hash::BuildHasher;
 use std::{io, vec};
 
 /// An iterator of a line.
 trait Walked: ExactSizeIterator {
-    /// `next`.
-    fn print_next<R: Print>(&mut self, rt: &R) -> io::Result<()>;
-
-    /// Goes over what is left in a `for` loop, of at most this many items, and prints their list.
-    fn print_rest<R: Print>(&mut self, rt: &R, most: usize) -> io::Result<()>;
-
-    /// Makes a step that not each iterator has.
-    fn print_other<R: Print>(&mut self, rt: &R, step: &str, words: &Words<'_>) -> io::Result<()>;
+    /// Makes a step, and prints what it gave.
+    fn play<R: Print>(&mut self, rt: &R, step: &str, words: &Words<'_>) -> io::Result<()>;
 }
 
 impl<K: Named, V: Number> Walked for Iter<'_, K, V> {
-    fn print_next<R: Print>(&mut self, rt: &R) -> io::Result<()> {
-        print!(rt; "{:?}", of_pair(self.next()))
-    }
-
-    fn print_rest<R: Print>(&mut self, rt: &R, most: usize) -> io::Result<()> {
-        print_items(rt, self, most, of_shown)
-    }
-
-    fn print_other<R: Print>(&mut self, rt: &R, step: &str, words: &Words<'_>) -> io::Result<()> {
+    fn play<R: Print>(&mut self, rt: &R, step: &str, words: &Words<'_>) -> io::Result<()> {
         match step {
             "clone" => print_items(rt, &mut self.clone()?, usize::MAX, of_shown),
             "debug" => print!(rt; "{self:?}"),
-            _ => words.fail(),
+            _ => play_step(rt, self, step, words, of_shown),
         }
     }
 }
 
 impl<T: Debug, O> Walked for Column<'_, T, O> {
-    fn print_next<R: Print>(&mut self, rt: &R) -> io::Result<()> {
-        print_item(rt, self.next())
-    }
-
-    fn print_rest<R: Print>(&mut self, rt: &R, most: usize) -> io::Result<()> {
-        print_items(rt, self, most, |item| item)
-    }
-
-    fn print_other<R: Print>(&mut self, rt: &R, step: &str, words: &Words<'_>) -> io::Result<()> {
+    fn play<R: Print>(&mut self, rt: &R, step: &str, words: &Words<'_>) -> io::Result<()> {
         match step {
             "clone" => print_items(rt, &mut self.clone()?, usize::MAX, |item| item),
-            _ => words.fail(),
+            _ => play_step(rt, self, step, words, |item| item),
         }
     }
 }
 
 impl<K: Named, V: Number> Walked for IterMut<'_, K, V> {
-    fn print_next<R: Print>(&mut self, rt: &R) -> io::Result<()> {
-        print_item(rt, self.next().map(of_lent))
-    }
-
-    fn print_rest<R: Print>(&mut self, rt: &R, most: usize) -> io::Result<()> {
-        print_items(rt, self, most, of_lent)
-    }
-
-    fn print_other<R: Print>(&mut self, rt: &R, step: &str, words: &Words<'_>) -> io::Result<()> {
+    fn play<R: Print>(&mut self, rt: &R, step: &str, words: &Words<'_>) -> io::Result<()> {
         match step {
             "add" => print_item(rt, self.next().map(|pair| of_pair_more(pair, 1))),
-            _ => words.fail(),
+            _ => play_step(rt, self, step, words, of_lent),
         }
     }
 }
 
 impl<K, V: Number> Walked for ValuesMut<'_, K, V> {
-    fn print_next<R: Print>(&mut self, rt: &R) -> io::Result<()> {
-        print_item(rt, self.next())
-    }
-
-    fn print_rest<R: Print>(&mut self, rt: &R, most: usize) -> io::Result<()> {
-        print_items(rt, self, most, |value| value)
-    }
-
-    fn print_other<R: Print>(&mut self, rt: &R, step: &str, words: &Words<'_>) -> io::Result<()> {
+    fn play<R: Print>(&mut self, rt: &R, step: &str, words: &Words<'_>) -> io::Result<()> {
         match step {
             "add" => print_item(rt, self.next().map(|value| of_more(value, 1))),
-            _ => words.fail(),
+            _ => play_step(rt, self, step, words, |value| value),
         }
     }
 }
 
 impl<K: Named, V: Number> Walked for IntoIter<K, V> {
-    fn print_next<R: Print>(&mut self, rt: &R) -> io::Result<()> {
-        print!(rt; "{:?}", of_removed(self.next()))
-    }
-
-    fn print_rest<R: Print>(&mut self, rt: &R, most: usize) -> io::Result<()> {
-        print_items(rt, self, most, of_taken)
-    }
-
-    fn print_other<R: Print>(&mut self, rt: &R, step: &str, words: &Words<'_>) -> io::Result<()> {
+    fn play<R: Print>(&mut self, rt: &R, step: &str, words: &Words<'_>) -> io::Result<()> {
         match step {
             "is_empty" => print!(rt; "{}", self.is_empty()),
-            _ => words.fail(),
+            _ => play_step(rt, self, step, words, of_taken),
         }
     }
 }
 
 impl<T: Debug + Drop> Walked for vec::IntoIter<T> {
-    fn print_next<R: Print>(&mut self, rt: &R) -> io::Result<()> {
-        print_item(rt, self.next())
-    }
-
-    fn print_rest<R: Print>(&mut self, rt: &R, most: usize) -> io::Result<()> {
-        print_items(rt, self, most, |item| item)
-    }
-
-    fn print_other<R: Print>(&mut self, _: &R, _: &str, words: &Words<'_>) -> io::Result<()> {
-        words.fail()
+    fn play<R: Print>(&mut self, rt: &R, step: &str, words: &Words<'_>) -> io::Result<()> {
+        play_step(rt, self, step, words, |item| item)
     }
 }
 
 impl<K: Named, V: Number, S: Ruled, L: Limit> Walked for Drain<'_, K, V, S, L> {
-    fn print_next<R: Print>(&mut self, rt: &R) -> io::Result<()> {
-        print!(rt; "{:?}", of_removed(self.next()))
-    }
-
-    fn print_rest<R: Print>(&mut self, rt: &R, most: usize) -> io::Result<()> {
-        print_items(rt, self, most, of_taken)
-    }
-
-    fn print_other<R: Print>(&mut self, _: &R, _: &str, words: &Words<'_>) -> io::Result<()> {
-        words.fail()
+    fn play<R: Print>(&mut self, rt: &R, step: &str, words: &Words<'_>) -> io::Result<()> {
+        play_step(rt, self, step, words, of_taken)
     }
 }
 
 impl<R: Print, K: Named, V: Number, S: Ruled, L: Limit> Player<'_, R, K, V, S, L> {
-    /// Makes an iterator of this kind, and prints the list of what it gives, or, for `walk`, of what the steps gave.
+    /// Makes an iterator of this kind, and prints the list of what it gives, or, for `walk`, of what the steps gave. Or prints
+    /// a text of this kind.
     pub(crate) fn walk(&mut self, call: &str, kind: &str, words: &Words<'_>) -> io::Result<()> {
-        self.mark();
         let (rt, alloc, map) = (self.rt, self.alloc, &mut self.a);
         match kind {
             "iter" => play(rt, &mut map.iter(), call, words),
@@ -155,19 +93,26 @@ impl<R: Print, K: Named, V: Number, S: Ruled, L: Limit> Player<'_, R, K, V, S, L
             "into_iter" | "for_value" => play(rt, &mut take(map, alloc).into_iter(), call, words),
             "into_keys" => play(rt, &mut take(map, alloc).into_keys(), call, words),
             "into_values" => play(rt, &mut take(map, alloc).into_values(), call, words),
-            _ => words.fail(),
+            _ => self.print_text(kind),
         }
     }
 
-    /// Prints the text of the first map, or of its iterator.
-    pub(crate) fn print_debug(&self, call: &str) -> io::Result<()> {
-        self.mark();
+    // Prints the text of the first map, of its iterator or of its raw entries.
+    fn print_text(&mut self, call: &str) -> io::Result<()> {
         let (rt, alloc, map) = (self.rt, self.alloc, &self.a);
         match call {
             "debug" => print!(rt; "{map:?}"),
             "debug_iter" => print!(rt; "{:?}", map.iter()),
             "debug_pretty" => print_in_one_line(rt, format!(in alloc; "{map:#?}")?.as_str()),
-            _ => print_in_one_line(rt, format!(in alloc; "{:#?}", map.iter())?.as_str()),
+            "debug_iter_pretty" => {
+                print_in_one_line(rt, format!(in alloc; "{:#?}", map.iter())?.as_str())
+            }
+            "raw_entry_debug" => print!(rt; "{:?}", map.raw_entry()),
+            "raw_entry_mut_debug" => match self.a.raw_entry_mut() {
+                Ok(entries) => print!(rt; "{entries:?}"),
+                Err(why) => print!(rt; "{:?}", Answer::from(why)),
+            },
+            _ => no_line(),
         }
     }
 }
@@ -181,14 +126,6 @@ pub(crate) fn take<K: Named, V: Number, S: Ruled, L: Limit>(
     std::mem::replace(map, empty)
 }
 
-/// Prints the pairs.
-pub(crate) fn print_pairs<K: Named, V: Number, S: BuildHasher, L: Limit>(
-    rt: &impl Print,
-    map: &LimitedHashMap<K, V, S, L>,
-) -> io::Result<()> {
-    map.iter().print_rest(rt, usize::MAX)
-}
-
 fn play<I: Walked>(
     rt: &impl Print,
     items: &mut I,
@@ -197,8 +134,8 @@ fn play<I: Walked>(
 ) -> io::Result<()> {
     match call {
         "walk" => print_steps(rt, items, words),
-        "drain" => items.print_rest(rt, words.count()),
-        _ => items.print_rest(rt, usize::MAX),
+        "drain" => items.play(rt, call, words),
+        _ => items.play(rt, "each", words),
     }
 }
 
@@ -207,32 +144,40 @@ fn print_steps<I: Walked>(rt: &impl Print, items: &mut I, words: &Words<'_>) -> 
     print!(rt; "[")?;
     for step in words.rest() {
         print!(rt; "{}", gap_before(&mut is_first, "; "))?;
-        print_step(rt, items, step, words)?;
+        items.play(rt, step, words)?;
     }
     print!(rt; "]")
 }
 
-fn print_step<I: Walked>(
+// Makes a step that each iterator has. `drain` goes over as many items as the next word says.
+fn play_step<I: ExactSizeIterator, A: Debug + Drop, F: Fn(I::Item) -> A>(
     rt: &impl Print,
     items: &mut I,
     step: &str,
     words: &Words<'_>,
-) -> io::Result<()> {
+    shown: F,
+) -> io::Result<()>
+    requires can { I.can_next items.old }
+    requires ends { IsFinite (I.remaining items.old) }
+    requires callable { F.IsAlwaysCallable shown }
+{
     match step {
-        "next" => items.print_next(rt),
+        "next" => match items.next() {
+            Some(item) => print!(rt; "{:?}", shown(item)),
+            None => print!(rt; "none"),
+        },
         "len" => print!(rt; "{}", items.len()),
         "hint" => print_hint(rt, items.size_hint()),
-        "each" => items.print_rest(rt, usize::MAX),
+        "each" => print_items(rt, items, usize::MAX, shown),
+        "drain" => print_items(rt, items, words.count(), shown),
         _ => match step.strip_prefix("each:") {
-            Some(most) => items.print_rest(rt, words.number_of(most) as usize),
-            None => items.print_other(rt, step, words),
+            Some(most) => print_items(rt, items, words.number_of(most) as usize, shown),
+            None => no_line(),
         },
     }
 }
 
-fn print_hint(rt: &impl Print, hint: (usize, Option<usize>)) -> io::Result<()> {
-    match hint {
-        (low, Some(high)) => print!(rt; "{low} {high}"),
-        (low, None) => print!(rt; "{low} none"),
-    }
+fn print_hint(rt: &impl Print, (low, high): (usize, Option<usize>)) -> io::Result<()> {
+    print!(rt; "{low} ")?;
+    print_item(rt, high)
 }

@@ -1,9 +1,10 @@
 //! The words of a line, as its call reads them.
 
-use crate::answer::{Answer, said};
+use crate::answer::{Answer, Answered, said};
 use std::cell::Cell;
 use std::io::ErrorKind;
 use std::{fmt, io};
+use test_support::builders::Rule;
 
 /// A key as it is written. Those of one id are equal, and the mark tells them apart.
 #[derive(Clone, Copy)]
@@ -94,27 +95,41 @@ impl<'a> Words<'a> {
         }
     }
 
+    /// The rule that the next word names.
+    pub(crate) fn rule(&self) -> Rule {
+        match self.next() {
+            "zero" => Rule::Zero,
+            "top" => Rule::Top,
+            word => {
+                if word != "plain" {
+                    self.refuse();
+                }
+                Rule::Plain
+            }
+        }
+    }
+
     /// These words make no line.
     pub(crate) fn refuse(&self) {
         self.is_wrong.set(true);
     }
 
     /// The same, in the place of an answer.
-    pub(crate) fn no_call(&self) -> Answer {
+    pub(crate) fn no_call(&self) -> Answered<Answer> {
         self.refuse();
-        said("no call")
-    }
-
-    /// The same, in the place of a printed answer.
-    pub(crate) fn fail(&self) -> io::Result<()> {
-        Err(ErrorKind::InvalidInput.into())
+        Ok(said("no call"))
     }
 
     /// Fails if a word was left, missing or wrong.
     pub(crate) fn check(&self) -> io::Result<()> {
         if self.is_wrong.get() || !self.left.get().is_empty() {
-            return self.fail();
+            return no_line();
         }
         Ok(())
     }
+}
+
+/// Fails, in the place of an answer, since the words make no line.
+pub(crate) fn no_line<T>() -> io::Result<T> {
+    Err(ErrorKind::InvalidInput.into())
 }
