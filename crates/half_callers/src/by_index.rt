@@ -1,23 +1,11 @@
-//! What callers build on the calls by index, proved from their public contracts only: a removal by the index that was found,
-//! and values that are set by an index that is given, or found.
+//! What callers build on the calls by index, proved from their public contracts only: values that are set by an index that is
+//! given, or found.
 ghost use Rattle.std.specs.Prelude.{◌≡◌, ◌<◌, ℕ, true, length, slice_get, Some, if◌then◌else◌};
 ghost use Rattle.std.specs.Map.{keys_of};
-ghost use Rattle.halfbrown.specs.Pairs.{value_of, stored_pair_of, holds, set_value, set_value_at, swap_out};
+ghost use Rattle.halfbrown.specs.Pairs.{value_of, holds, set_value, set_value_at};
 
 use halfbrown::{Limit, LimitedHashMap};
 use std::hash::{BuildHasher, Hash};
-
-/// Removes the pair of a key, by its index, as `remove_entry` does.
-pub fn remove_by_index<K: Eq + Hash + Drop, V: Drop, S: BuildHasher, L: Limit>(
-    map: &mut LimitedHashMap<K, V, S, L>,
-    key: &K,
-) -> Option<(K, V)>
-    ensures pair { result ≡ stored_pair_of K.eq map.old.pairs key.now }
-    ensures taken { map.new.pairs ≡ swap_out K.eq map.old.pairs key.now }
-{
-    let index = map.get_index_of(key)?;
-    map.swap_remove_index(index)
-}
 
 /// Sets the value of the pair at an index, where there is one, and else changes nothing.
 #[tactic(auto, using(halfbrown::proofs::callers::Values::index_facts))]

@@ -26,23 +26,20 @@ pub fn add_if_new<S: BuildHasher>(map: &mut Numbers<S>, key: u64) -> Result<(), 
     Ok(())
 }
 
-/// Stores this key in place of an equal one, by a raw entry.
+/// Stores this key in place of an equal one, or adds it, by a raw entry.
 pub fn store_key<S: BuildHasher>(map: &mut Numbers<S>, key: u64) -> Result<(), Refusal> {
-    if let RawEntryMut::Occupied(mut entry) = map.raw_entry_mut()?.from_key(&key) {
-        entry.insert_key(key);
+    match map.raw_entry_mut()?.from_key(&key) {
+        RawEntryMut::Occupied(mut entry) => {
+            entry.insert_key(key);
+        }
+        RawEntryMut::Vacant(entry) => {
+            entry.insert(key, 0);
+        }
     }
     Ok(())
 }
 
-/// Adds a key that is not held, by a raw entry.
-pub fn add_raw<S: BuildHasher>(map: &mut Numbers<S>, key: u64) -> Result<(), Refusal> {
-    if let RawEntryMut::Vacant(entry) = map.raw_entry_mut()?.from_key(&key) {
-        entry.insert(key, 0);
-    }
-    Ok(())
-}
-
-/// The same, by the hash of the key.
+/// Adds a key that is not held, by its hash.
 pub fn add_hashed<S: BuildHasher>(map: &mut Numbers<S>, key: u64) -> Result<(), Refusal> {
     let hash = map.hasher().hash_one(&key);
     if let RawEntryMut::Vacant(entry) = map.raw_entry_mut()?.from_key(&key) {

@@ -49,16 +49,7 @@ pub fn numbered(alloc: Global, number: &mut u64) -> Result<HashMap<u64, u64>, Re
     ensures capacity { IfOk result (λ m. m.capacity ≡ 2) }
     ensures evaluated { number.new ≡ number.old + 5 }
 {
-    hashmap! {in counted(alloc, number); next(number) => next(number), next(number) => next(number)}
-}
-
-// The allocator, for which the number goes up too.
-fn counted(alloc: Global, number: &mut u64) -> Global
-    requires { number.old < 2 ^ 64 - 1 }
-    ensures { number.new ≡ number.old + 1 }
-{
-    *number += 1;
-    alloc
+    hashmap! {in { next(number); alloc }; next(number) => next(number), next(number) => next(number)}
 }
 
 // The next number.

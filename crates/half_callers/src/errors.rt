@@ -19,15 +19,6 @@ pub fn store_age(ages: &mut HashMap<u64, u32>, id: u64, age: u32) -> Result<(), 
     Ok(())
 }
 
-/// A number in words, in a list. Where only std's calls may fail, the reason is known.
-pub fn written(alloc: Global, number: u64) -> Result<Vec<String>, Refusal>
-    ensures { IfErr result (λ why. why ≡ Refusal.Memory) }
-{
-    let mut words = Vec::new(alloc);
-    words.push(format!(in alloc; "{number}")?)?;
-    Ok(words)
-}
-
 /// Ages for a caller whose error is std's: a capacity that may be refused, an insertion and an entry.
 pub fn ages_of_std(alloc: Global) -> Result<HashMap<u64, u32>, AllocError>
     ensures ada { IfOk result (λ ages. value_of nat_eq ages.pairs 1 ≡ Some 36) }

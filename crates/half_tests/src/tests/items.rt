@@ -2,9 +2,9 @@
 ghost use Rattle.std.specs.Prelude.{◌≡◌, ◌==◌};
 ghost use Rattle.std.specs.Hash as fed;
 ghost use Rattle.std.specs.Cmp.Rules.{comparing, hashing};
-ghost use Rattle.std.proofs.Common.{rules};
+ghost use Rattle.std.proofs.Common.{rules, sym};
 
-use halfbrown::{DefaultHashBuilder, Refusal, SizedHashMap};
+use halfbrown::{DefaultHashBuilder, EqualClone, Refusal, SizedHashMap};
 use std::alloc::{AllocError, Global};
 use std::cell::Cell;
 use std::hash::{Hash, Hasher};
@@ -82,6 +82,10 @@ impl PartialEq for Item<'_> {
 
 impl Eq for Item<'_> {
     ghost laws = { Prim.search (comparing, rules) };
+}
+
+impl EqualClone for Item<'_> {
+    ghost clones_equal = { λ key copy same. Prim.search (rules, same, sym) };
 }
 
 impl Hash for Item<'_> {

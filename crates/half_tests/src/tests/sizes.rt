@@ -1,8 +1,6 @@
 //! Sizes that no script reaches. No contract says that memory is found, so that a body which gives up from a size on, or where
 //! it needs no memory, is proved: here each call has to succeed.
 
-ghost use Rattle.test_support.specs.declared.builders.Rule.TheVariants.{Plain};
-
 use half_set::HashSet;
 use half_uses::interner::Interner;
 use half_uses::scopes::Scopes;
@@ -10,30 +8,16 @@ use half_uses::words::{count_words, report};
 use halfbrown::{HashMap, SizedHashMap, hashmap};
 use std::alloc::Global;
 use std::cell::Cell;
-use std::hash::BuildHasher;
 use std::test::Fail;
 use test_support::asserts::{assert_same, assert_same_at};
-use test_support::builders::{Counting, NumberHasher, Rule};
-
-// A builder of eight bytes, by the plain rule. It counts the hashes that it makes.
-#[derive(Clone, Copy)]
-struct Light<'a>(&'a Cell<u64>);
-
-impl BuildHasher for Light<'_> {
-    type Hasher = NumberHasher;
-
-    ghost build_hasher = { λ _. record { rule = Plain; word = 0 } };
-
-    fn build_hasher(&self) -> NumberHasher {
-        Counting::new(Rule::Plain, self.0).build_hasher()
-    }
-}
+use test_support::builders::{Counting, Rule};
 
 // A vector of as many pairs as its limit, of which one more makes a table, and shrinking a vector again. The switch hashes each
 // key once, and later each look-up one.
 fn assert_limit<const N: usize>(alloc: Global, hashes: u64, capacity: usize) -> Result<(), Fail> {
     let asked = Cell::new(0);
-    let mut map = SizedHashMap::<usize, usize, _, N>::with_hasher(alloc, Light(&asked));
+    let builder = Counting::new(Rule::Plain, &asked);
+    let mut map = SizedHashMap::<usize, usize, _, N>::with_hasher(alloc, builder);
     for number in 0..N {
         map.insert(number, number)?;
     }
@@ -76,31 +60,6 @@ fn five_hundred_texts(rt: HostRuntime) -> Result<(), Fail> {
     map.retain(|_, value| *value < 32);
     map.shrink_to_fit();
     assert_same((map.is_vec(), map.capacity()), (true, 32), "a full vector")
-}
-
-// Of these many values a loop writes the first seven, and is broken off. The later ones are as before.
-fn assert_broken_off(alloc: Global, pairs: u64) -> Result<(), Fail> {
-    let mut map = HashMap::<u64, u64>::new(alloc);
-    for number in 0..pairs {
-        map.insert(number, number)?;
-    }
-    for value in map.values_mut() {
-        if *value == 7 {
-            break;
-        }
-        *value = 1000;
-    }
-    for number in 0..pairs {
-        let value = if number < 7 { 1000 } else { number };
-        assert_same_at(number, map.get(&number).copied(), Some(value), "after")?;
-    }
-    Ok(())
-}
-
-#[test]
-fn a_loop_over_values_is_broken_off(rt: HostRuntime) -> Result<(), Fail> {
-    assert_broken_off(rt.alloc(), 20)?;
-    assert_broken_off(rt.alloc(), 200)
 }
 
 #[test]

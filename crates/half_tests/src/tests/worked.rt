@@ -1,11 +1,7 @@
 //! Worked examples that no script says, in the order of `tests/scripts/worked`: of texts and characters, of calls on one entry,
 //! and of numbers as keys.
 
-ghost use Rattle.std.specs.Prelude.{◌==◌};
-ghost use Rattle.std.specs.Hash as fed;
-ghost use Rattle.std.specs.Cmp.Rules.{comparing, hashing};
-ghost use Rattle.std.proofs.Common.{rules};
-
+use super::items::{Item, Told};
 use super::uses::assert_collected;
 use half_callers::conditions::by_index;
 use half_callers::drains::take_first;
@@ -15,7 +11,7 @@ use halfbrown::{
 };
 use std::alloc::Global;
 use std::cell::Cell;
-use std::hash::{BuildHasher, Hash, Hasher};
+use std::hash::BuildHasher;
 use std::iter::repeat_n;
 use std::test::Fail;
 use test_support::asserts::{assert_same, assert_same_at};
@@ -140,49 +136,21 @@ fn one_of_two_letters_is_drained(rt: HostRuntime) -> Result<(), Fail> {
     assert_same(map.is_empty() && map.is_vec(), true, "drained")
 }
 
-// Equal by its number alone.
-#[derive(Debug, Drop)]
-struct Marked(u64, u64);
-
-impl PartialEq for Marked {
-    ghost eq = { λ a b. a.0 == b.0 };
-
-    ghost laws = { Prim.search (comparing, rules) };
-
-    fn eq(&self, other: &Self) -> bool {
-        self.0 == other.0
-    }
-}
-
-impl Eq for Marked {
-    ghost laws = { Prim.search (comparing, rules) };
-}
-
-impl Hash for Marked {
-    ghost hash_input = { λ key. fed.u64 key.0 };
-
-    ghost respects_eq = { Prim.search (hashing, rules) };
-
-    fn hash<H: Hasher>(&self, state: &mut H) {
-        self.0.hash(state);
-    }
-}
-
 #[test]
 fn a_raw_entry_gets_another_spelling(rt: HostRuntime) -> Result<(), Fail> {
-    let mut map = SizedHashMap::<Marked, u64, DefaultHashBuilder, 5>::new(rt.alloc());
-    map.insert(Marked(1, 1), 10)?;
-    let found = map.raw_entry_mut()?.from_key(&Marked(1, 2));
-    assert_same(
-        matches!(found, RawEntryMut::Occupied(_)),
-        true,
-        "it is held",
-    )?;
-    let mut entry = found.insert(Marked(1, 4), 20);
-    assert_same((entry.key().1, *entry.get()), (1, 20), "the stored key")?;
-    assert_same(entry.insert_key(Marked(1, 3)).1, 1, "the key before")?;
+    let told = Told::new();
+    let mut map = SizedHashMap::<Item<'_>, u64, DefaultHashBuilder, 5>::new(rt.alloc());
+    map.insert(Item::equal_to(1, 1, &told), 10)
+        .map_err(|refused| refused.why)?;
+    let found = map.raw_entry_mut()?.from_key(&Item::equal_to(1, 2, &told));
+    let is_held = matches!(found, RawEntryMut::Occupied(_));
+    assert_same(is_held, true, "it is held")?;
+    let mut entry = found.insert(Item::equal_to(1, 4, &told), 20);
+    assert_same((entry.key().digit, *entry.get()), (1, 20), "the stored key")?;
+    let before = entry.insert_key(Item::equal_to(1, 3, &told));
+    assert_same(before.digit, 1, "the key before")?;
     let (key, value) = entry.remove_entry();
-    assert_same((key.0, key.1, value), (1, 3, 20), "the other spelling")
+    assert_same((key.id, key.digit, value), (1, 3, 20), "the other spelling")
 }
 
 // Inserts key 5 by its hash, and returns it. What is asked is counted after the hash. Any builder will do: a caller whose map
