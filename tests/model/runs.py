@@ -1,6 +1,6 @@
 """The line `run`: commands, which are handed `a` and what each says, and their replies."""
 
-from model.all_pairs import clear
+from model.all_pairs import truncate
 from model.basics import Pair, Refused, list_of, text_of
 from model.map import Map
 from model.one_key import by
@@ -23,7 +23,7 @@ COMMANDS = {
     "raw_or_insert KEY V": value_or(Map.raw_entry, Map.append_hashing),
     "get KEY": by(Map.find, lambda a, pair: f"found {pair.value}", "found none"),
     "remove KEY": by(Map.find_to_remove, lambda a, pair: f"removed {a.take_out(pair)}", "removed none"),
-    "clear": clear,
+    "clear": truncate,
     "reserve SIZE": Map.reserve,
     "shrink": lambda a: a.shrink_to_fit() or f"form {text_of(a.is_vec)}",
     "is_vec": lambda a: f"form {text_of(a.is_vec)}",
