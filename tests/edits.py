@@ -15,7 +15,7 @@ The last is for edits that refuse memory, since no contract says that it is foun
 no tally or with another one; that drop in another way; or that print another debug form. A comment gives any other reason.
 
 The crates are proved first, if out/ lacks that. Several edits are planted in one copy of the sources if each shows in a place
-of its own. One that does not show there is tried by itself. The last line is "N passed, M failed".
+of its own. One that does not show there is tried by itself.
 """
 
 import os

@@ -1,9 +1,6 @@
 #!/usr/bin/env python3
 """Runs halfmap over pipes that nobody should have, and takes its input, its output and its memory away. Its contract says what
-it answers to a line. This shows when the answers come, and what is left if something fails.
-
-The program is the one that HALFMAP names, or the proved one. The last line is "N passed, M failed".
-"""
+it answers to a line. This shows when the answers come, and what is left if something fails."""
 
 import os
 import pathlib

@@ -105,8 +105,8 @@ class Map:
         return self.pairs if self.is_vec else [pair for pair in self.pairs if hash_of(pair.key) == hash_]
 
     def match(self, hash_, accepts, block=1):
-        """The pair that is found, or None. A vector is searched in order, a block of keys at a time. A table compares the keys of
-        the hash, and in which order is left open."""
+        """The pair that is found, or None. A vector is searched in order, a block of keys at a time. A table compares the keys
+        of the hash, and in which order is left open."""
         candidates = self.candidates(hash_)
         for index, pair in enumerate(candidates):
             if accepts(pair.key):
