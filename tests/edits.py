@@ -33,6 +33,7 @@ import refused_by
 import tools
 
 EDITS = tools.TESTS / "edits"
+LINE = re.compile("(once|each|file|found by|refused by): ?(.*)")
 REMOVED, ADDED = re.compile(r"\[-(.*?)-\]"), re.compile(r"\{\+(.*?)\+\}")
 # What memory a check takes at most, and how many edits are tried in one.
 MEMORY, MOST_TOGETHER = 2_000_000_000, 24
@@ -46,7 +47,7 @@ class Edit:
         self.crate, _, module = self.place.partition("/")
         self.name, *lines = text.splitlines()
         self.changes, said = [], {"file": f"src/{module}.rt", "found by": "", "refused by": ""}
-        for word, text in (re.fullmatch(r"(\w+(?: by)?): ?(.*)", it).groups() for it in lines if it and it[0] != "#"):
+        for word, text in (LINE.fullmatch(it).groups() for it in lines if it and it[0] != "#"):
             if word in ("once", "each"):
                 old, new = REMOVED.sub(r"\1", ADDED.sub("", text)), ADDED.sub(r"\1", REMOVED.sub("", text))
                 self.changes += [(file, word, old, new) for file in said["file"].split()]

@@ -164,8 +164,8 @@ def streams_that_are_closed_or_full():
 def a_reader_that_goes_away():
     """The program ends while its input goes on, in the middle of what it has read. The answers until then are right."""
     run = Run()
-    sender = run.send_beside(b"i 1 1\n" * MEBI)
-    run.read(b"none\n" + b"was 1\n" * 10_000)
+    sender = run.send_beside(b"\n" * MEBI)
+    run.read(b"bad line\n" * 10_000)
     run.program.stdout.close()
     sender.join()
     run.ends(b"", b"", status=1)
