@@ -1,7 +1,6 @@
 #!/usr/bin/env python3
 """Copies each module of half_uses into a new crate, by its copy.sh, and compiles these crates with nothing proved. Each file is
-copied, none names half_uses then, and its page has the files of each module. The last line is "N passed, M failed".
-"""
+copied, none names half_uses then, and its page has the files of each module."""
 
 import pathlib
 import tempfile

@@ -1,5 +1,5 @@
 #!/usr/bin/env python3
-"""What the documentation names is there, and what it shows is proved or run. The last line is "N passed, M failed".
+"""What the documentation names is there, and what it shows is proved or run.
 
     tests/documentation.py            runs the program HALFMAP, and the examples of the map and the set, with nothing proved
     tests/documentation.py --write    prints the clauses, words and lists of CALLING anew, as they stand in the sources
@@ -165,9 +165,10 @@ git = tools.said_by(["git", "ls-files", "-co", "--exclude-standard"], cwd=TOP)
 files = [it for it in git.splitlines() if (TOP / it).exists()]
 tree = "\n".join(f"/{it}" for it in files)
 claims = [(f"{it}: {what}", stands) for it in files if it.endswith(".md") for what, stands in named(TOP / it, tree)]
-for shown in (imports, snippets, lemmas):
-    claims += [it for page in (*calling_page.pages(), USING, PROOFS) for it in shown(page.read_text())]
-claims += [*readme((TOP / "README.md").read_text()), *(it for page in calling_page.pages() for it in calling_page.claims(page)), *copied(), *examples()]
+for page in (*calling_page.pages(), USING, PROOFS):
+    claims += [it for shown in (imports, snippets, lemmas) for it in shown(page.read_text())]
+claims += [it for page in calling_page.pages() for it in calling_page.claims(page)]
+claims += [*readme((TOP / "README.md").read_text()), *copied(), *examples()]
 claims += [(path.name, drawn == path.read_text()) for path, drawn in picture.pictures()]
 table = (TOP / "docs/TABLE.md").read_text()
 claims += [(row, f"{row}\n" in table) for load, _ in picture.LOADS.values() for row in picture.tail_rows(load)]

@@ -5,7 +5,7 @@
 
 tests/edits/CRATE/PATH.edits has those of crates/CRATE/src/PATH.rt, each below a line `edit: NAME` that says its fault:
 
-    old: TEXT            stands once in that file, and the text of the next line, `new: TEXT`, takes its place
+    once: TEXT           as git prints a word diff: of the text that stands once in that file [-this goes-] and {+this comes+}
     each: TEXT           the same for a text that stands several times
     file: PATH ..        from here on these files of the crate are meant
     refused by: CLAUSE   the goal that is not proved is of this clause; if a call has one clause, that of a return
@@ -15,7 +15,7 @@ The last is for edits that refuse memory, since no contract says that it is foun
 no tally or with another one; that drop in another way; or that print another debug form. A comment gives any other reason.
 
 The crates are proved first, if out/ lacks that. Several edits are planted in one copy of the sources if each shows in a place
-of its own. One that does not show there is tried by itself. The last line is "N passed, M failed".
+of its own. One that does not show there is tried by itself.
 """
 
 import os
@@ -33,6 +33,8 @@ import refused_by
 import tools
 
 EDITS = tools.TESTS / "edits"
+LINE = re.compile("(once|each|file|found by|refused by): ?(.*)")
+REMOVED, ADDED = re.compile(r"\[-(.*?)-\]"), re.compile(r"\{\+(.*?)\+\}")
 # What memory a check takes at most, and how many edits are tried in one.
 MEMORY, MOST_TOGETHER = 2_000_000_000, 24
 
@@ -45,11 +47,10 @@ class Edit:
         self.crate, _, module = self.place.partition("/")
         self.name, *lines = text.splitlines()
         self.changes, said = [], {"file": f"src/{module}.rt", "found by": "", "refused by": ""}
-        for word, text in (re.fullmatch(r"(\w+(?: by)?): ?(.*)", it).groups() for it in lines if it and it[0] != "#"):
-            if word == "new":
-                self.changes += [(file, *old, text) for file in said["file"].split()]
-            elif word in ("old", "each"):
-                old = word, text
+        for word, text in (LINE.fullmatch(it).groups() for it in lines if it and it[0] != "#"):
+            if word in ("once", "each"):
+                old, new = REMOVED.sub(r"\1", ADDED.sub("", text)), ADDED.sub(r"\1", REMOVED.sub("", text))
+                self.changes += [(file, word, old, new) for file in said["file"].split()]
             else:
                 said[word] = text
         self.found_by, self.clause = said["found by"], said["refused by"]
@@ -74,7 +75,7 @@ class Edit:
         for file, word, old, new in self.changes:
             path = copy / "crates" / self.crate / file
             text = path.read_text()
-            if text.count(old) != 1 and (word == "old" or old not in text):
+            if text.count(old) != 1 and (word == "once" or old not in text):
                 raise ValueError(f"{file} has this text {text.count(old)} times: {old}")
             path.write_text(text.replace(old, new))
 

@@ -13,6 +13,7 @@ library picks its routines by the processor.
 import concurrent.futures
 import os
 import pathlib
+import re
 import shutil
 import subprocess
 import sys
@@ -49,26 +50,33 @@ def count(program, row, size):
         return own(pathlib.Path(folder, "out.2").read_text(), program) / int(ran.stdout.split()[0])
 
 
+def stored_rows():
+    """The rows of the table, each with its numbers. A line has those of a call, one for each type of keys."""
+    for line in TABLE.read_text().splitlines():
+        call, *parts = re.split(r" +(u64|String) ", line)
+        yield from ((f"{call} {keys}", [*map(float, numbers.split())]) for keys, numbers in zip(parts[::2], parts[1::2]))
+
+
 def main():
     words = {*sys.argv[1:]} - {"--write"}
     if not shutil.which("valgrind"):
         return print("There is no valgrind, so no instructions are counted.\n0 passed, 0 failed")
-    rows = [line.rsplit(maxsplit=3) for line in TABLE.read_text().splitlines()]
-    rows = [row for row in rows if not words or words & {*row[0].split()}]
-    program, told, written = tools.program("half_bench"), [], ""
+    rows = [(row, numbers) for row, numbers in stored_rows() if not words or words & {*row.split()}]
+    program, told, written = tools.program("half_bench"), [], {}
     # As many programs run at once as there are processors.
     with concurrent.futures.ThreadPoolExecutor(os.cpu_count()) as pool:
-        counts = [[pool.submit(count, program, row, size) for size in SIZES] for row, *_ in rows]
-        for (row, *stored), counting in zip(rows, counts):
-            old, new = [float(it) for it in stored], [it.result() for it in counting]
+        counts = [[pool.submit(count, program, row, size) for size in SIZES] for row, _ in rows]
+        for (row, old), counting in zip(rows, counts):
+            new = [it.result() for it in counting]
             differs = any(abs(after - before) > APART * before + ROUNDED for before, after in zip(old, new))
             said = ", differs" * differs + ", grows" * (new[2] > GROWTH * new[1])
             told.append(row + said if said else None)
             three = (f"{before:10.2f} {after:10.2f} {after / before:.3f}" for before, after in zip(old, new))
             print(f"{row:50}", *three, said[1:], flush=True)
-            written += f"{row:50}" + "".join(f"{it:12.2f}" for it in new) + "\n"
+            call, keys = row.rsplit(" ", 1)
+            written[call] = written.get(call, f"{call:43}") + f"{keys:6}" + "".join(f"{it:11.2f}" for it in new) + "  "
     if sys.argv[1:] == ["--write"]:
-        TABLE.write_text(written)
+        TABLE.write_text("".join(f"{line.rstrip()}\n" for line in written.values()))
     tools.end(told)
 
 

@@ -4,8 +4,7 @@
 Some bytes stand there for the libraries and for halfmap, under the stamps that rt compares. `make unpack` has to refuse each
 archive that is not as it was packed, or not of this kit and these sources, and then to change nothing. It has to put the good
 one in place, with the library that is named and the one below it, so that rt proves nothing anew, and `make run` takes halfmap
-as proved. The program is the one that HALFMAP names, or the proved one. The last line is "N passed, M failed".
-"""
+as proved."""
 
 import hashlib
 import io

@@ -3,10 +3,7 @@
 
 All of them are put into one crate, as its modules, over a copy of the libraries' sources, and nothing is proved there. The
 compiler stops after the first of its passes that finds errors. So those that it has found are taken out, and the rest is
-compiled again until it finds none. These have to be the ones that compile, and they are run.
-
-The last line is "N passed, M failed".
-"""
+compiled again until it finds none. These have to be the ones that compile, and they are run."""
 
 import pathlib
 import re

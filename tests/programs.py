@@ -4,10 +4,7 @@
     tests/programs.py NAME
 
 Its stored input is played, and each request for memory that it makes then is refused by itself. json_at is compared with
-Python's json: on JSON files of the toolchain, and on documents made at random, whole and at paths.
-
-The program is the one that JSON_AT or WORD_COUNT names, or the proved one. The last line is "N passed, M failed".
-"""
+Python's json: on JSON files of the toolchain, and on documents made at random, whole and at paths."""
 
 import contextlib
 import json

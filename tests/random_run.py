@@ -5,7 +5,7 @@
 
 The scripts are in the language of docs/SCRIPTS.md. Besides each answer its work, its drops and its memory are compared;
 allocator.c refuses all requests of `refused` calls, or in some scripts one of each. If a script differs, lines are taken out as
-long as it still differs, and what is left is printed with both answers. The last line is "N passed, M failed".
+long as it still differs, and what is left is printed with both answers.
 """
 
 import functools

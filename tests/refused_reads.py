@@ -2,8 +2,7 @@
 """Refuses each request for memory, one at a time, of the test of half_serde that reads a map twice. The refused read has to be
 an error of memory, the other one whole, and all memory given back.
 
-It takes the tests as `rt ci` has proved and built them. The last line is "N passed, M failed".
-"""
+It takes the tests as `rt ci` has proved and built them."""
 
 import re
 

@@ -10,8 +10,7 @@ these lines are played with the first request of that call refused, with the sec
 played with each two in a row refused, and with all. That call and later ones may then have other answers, `or WANTED`, and some
 play must give each. If it stands more often, one play refuses all requests.
 
-The program is the one that WITNESS names, or the proved one. A call passes if each play meets a line that is wanted of it. One
-that fails is printed as scripts/FILE:LINE with what was found, and the last line is "N passed, M failed".
+A call passes if each play meets a line that is wanted of it. One that fails is printed as scripts/FILE:LINE with what was found.
 """
 
 import dataclasses

@@ -1,4 +1,5 @@
-"""What the tests share: programs, copies of the sources, and how a test ends."""
+"""What the tests share. The program that one runs is that which the variable of its name says, such as WITNESS, or the proved
+one. The last line of each is "N passed, M failed"."""
 
 import os
 import pathlib
@@ -12,7 +13,6 @@ TOP = TESTS.parent
 
 
 def program(name):
-    """Where a program stands: where the variable of its name says, or otherwise where it is proved."""
     path = pathlib.Path(os.environ.get(name.upper()) or TOP / f"crates/{name}/out/{name}")
     if not path.exists():
         end([f"{path} is not there: `rt run` in crates/{name} proves and builds it"])
@@ -58,7 +58,7 @@ def said_by(command, **given):
 
 
 def end(told):
-    """Ends a test whose checks told what is wrong, or None: prints that, and as the last line "N passed, M failed"."""
+    """Ends a test whose checks told what is wrong, or None."""
     faults = [it for it in told if it]
     print(*faults, f"{len(told) - len(faults)} passed, {len(faults)} failed", sep="\n")
     sys.exit(bool(faults) or not told)

@@ -23,11 +23,7 @@ def pretty(a, opened, shown, closed):
     return rf"{opened}\n{lines}{closed}" if a.pairs else opened + closed
 
 
-def clear(a):
-    a.pairs = []
-
-
-def truncate(a, count):
+def truncate(a, count=0):
     a.pairs = a.pairs[:count]
 
 
@@ -118,7 +114,7 @@ def other_map(maps, limit, rule):
 
 
 OF_A_CALLS = {
-    "clear": clear,
+    "clear": truncate,
     "truncate SIZE": truncate,
     "reserve SIZE": Map.reserve,
     "shrink_to_fit": Map.shrink_to_fit,

@@ -1,6 +1,7 @@
 """The map as a list of pairs with a form, a capacity, a limit and a rule. Buckets decide no answer, so it has none."""
 
 import dataclasses
+import functools
 
 from model.basics import MANY, RULES, Pair, Refused, Work
 
@@ -9,6 +10,8 @@ from model.basics import MANY, RULES, Pair, Refused, Work
 COLUMNS, ARRAYS, BLOCK = 2, 2, 1
 # The bytes of a hash, of the word of a bucket, and of that block.
 HASH_BYTES, WORD_BYTES, BLOCK_BYTES = 8, 4, 56
+# How many small keys of a vector are compared at a time.
+KEYS_IN_BLOCK = 16
 
 
 def table_capacity(pairs):
@@ -101,43 +104,33 @@ class Map:
         hash_of = RULES[self.rule]
         return self.pairs if self.is_vec else [pair for pair in self.pairs if hash_of(pair.key) == hash_]
 
-    def match(self, hash_, accepts, by_block=False):
-        """Returns the pair that is found, or None. A vector is searched in order, a table among the keys of the hash. Of keys
-        in blocks more than those up to the pair may be compared."""
+    def match(self, hash_, accepts, block=1):
+        """The pair that is found, or None. A vector is searched in order, a block of keys at a time. A table compares the keys
+        of the hash, and in which order is left open."""
         candidates = self.candidates(hash_)
-        for count, pair in enumerate(candidates, 1):
+        for index, pair in enumerate(candidates):
             if accepts(pair.key):
-                least = count if self.is_vec else 1
-                self.work.compare(least, least if self.is_vec and not by_block else len(candidates))
+                most = min(index - index % block + block, len(candidates)) if self.is_vec else len(candidates)
+                self.work.compare(most if self.is_vec else 1, most)
                 return pair
         self.work.compare(len(candidates), len(candidates))
         return None
 
-    def match_any(self, hash_):
-        """The search by a match that accepts each key. Which one a table with several of the hash finds is not said."""
-        found = self.candidates(hash_)[:1]
-        self.work.compare(len(found), len(found))
-        return found[0] if found else None
-
-    def find_hashed(self, key):
-        """The search for a key whose hash is handed in."""
-        return self.match(RULES[self.rule](key), lambda held: held.id == key.id, self.work.are_small)
+    def find_hashed(self, key, block=KEYS_IN_BLOCK):
+        """The search for a key whose hash is handed in. Only small keys are compared in blocks."""
+        return self.match(RULES[self.rule](key), lambda held: held.id == key.id, block if self.work.are_small else 1)
 
     def count_hash(self):
         """A key is hashed, which only a table needs."""
         self.work.hashes += 0 if self.is_vec else 1
 
-    def find(self, key):
+    def find(self, key, block=KEYS_IN_BLOCK):
         self.count_hash()
-        return self.find_hashed(key)
+        return self.find_hashed(key, block)
 
-    def find_to_remove_hashed(self, key):
-        """The same for a removal, which compares key by key."""
-        return self.match(RULES[self.rule](key), lambda held: held.id == key.id)
-
-    def find_to_remove(self, key):
-        self.count_hash()
-        return self.find_to_remove_hashed(key)
+    # A removal compares key by key.
+    find_to_remove = functools.partialmethod(find, block=1)
+    find_to_remove_hashed = functools.partialmethod(find_hashed, block=1)
 
     def holds(self, key):
         """Whether a key is held, as the program asks before a call: it is not counted."""

@@ -39,7 +39,7 @@ def insert_nocheck(a, key, value):
 
 
 def find_match(a, hash_, which):
-    return a.match_any(hash_) if which == "any" else a.match(hash_, lambda held: held.id == which)
+    return a.match(hash_, lambda held: which in ("any", held.id))
 
 
 def raw_found(a, search, *said):

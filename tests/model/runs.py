@@ -1,6 +1,6 @@
 """The line `run`: commands, which are handed `a` and what each says, and their replies as `{:?}` prints them."""
 
-from model.all_pairs import clear
+from model.all_pairs import truncate
 from model.basics import Refused, list_of, text_of
 from model.map import Map
 from model.one_key import by
@@ -33,7 +33,7 @@ COMMANDS = {
     "raw_or_insert KEY V": value_or(Map.raw_entry, Map.append_hashing),
     "get KEY": by(Map.find, lambda a, pair: f"Found(Some({pair.value}))", "Found(None)"),
     "remove KEY": by(Map.find_to_remove, remove, "Removed(None)"),
-    "clear": clear,
+    "clear": truncate,
     "reserve SIZE": Map.reserve,
     "shrink": lambda a: a.shrink_to_fit() or f"Form({text_of(a.is_vec)})",
     "is_vec": lambda a: f"Form({text_of(a.is_vec)})",
