@@ -41,13 +41,17 @@ COMMANDS = {
 }
 
 
+def written(command, said):
+    """A command, as it comes back if it is refused."""
+    name = command.split(" ")[0].title().replace("_", "")
+    return f"{name}({', '.join(map(str, said))})" if said else name
+
+
 def reply(a, command, said):
-    """A command that is refused comes back."""
     try:
         return COMMANDS[command](a, *said) or "Done"
     except Refused as why:
-        name = command.split(" ")[0].title().replace("_", "")
-        return f"Refused({name}({', '.join(map(str, said))}), {str(why).capitalize()})"
+        return f"Refused({written(command, said)}, {str(why).capitalize()})"
 
 
 def run(a, commands):

@@ -1,8 +1,9 @@
 """A script on the model, line by line."""
 
-from model.basics import ALL, GREATEST, NONE, Pair, Refused, Work
+from model.basics import ALL, GREATEST, NONE, Pair, Refused, Work, list_of
 from model.lines import BYTES, CALLS, CALLS_ON_A, WITH_TEXT, keys_in, read_call, read_first, values_in
 from model.map import Map
+from model.runs import written
 
 # What the model says of a line that it cannot read, at which the program ends.
 NO_LINE = "no line"
@@ -14,6 +15,8 @@ def refusal_of(pattern, said, why):
         return f"refused {why} {Pair(*said)}"
     if pattern.startswith("entry"):
         return f"refused {why} {said[0]}"
+    if pattern == "run COMMANDS":
+        return f"refused {why} {list_of([written(*it) for it in said[0]], ', ')}"
     return "refused" if pattern in ("extend ITEMS", "extend_by ITEMS", "collect ITEMS") else f"refused {why}"
 
 

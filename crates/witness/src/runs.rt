@@ -6,7 +6,7 @@ use crate::keys::Id;
 use crate::player::Player;
 use crate::words::Words;
 use halfbrown::run::run;
-use halfbrown::{Command, Equivalent, Limit, LimitedHashMap, Refusal};
+use halfbrown::{Command, Equivalent, Limit, LimitedHashMap};
 use std::alloc::AllocError;
 use std::io;
 use test_support::builders::Counting;
@@ -45,7 +45,7 @@ impl<R: Print, K: Named, S: Ruled, L: Limit> Player<'_, R, K, u64, S, L> {
         let commands = self.commands(words)?;
         match run(self.alloc, &mut self.a, commands) {
             Ok(replies) => print!(self.rt; "{replies:?}"),
-            Err(_) => self.say(Err(Refusal::Memory.into())),
+            Err(back) => print!(self.rt; "refused memory {back:?}"),
         }
     }
 

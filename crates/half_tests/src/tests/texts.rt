@@ -1,10 +1,12 @@
-//! What is printed: the forms of a text, and the text of an error.
+//! Maps of texts under random hashes, and what is printed: the forms of a text, and the text of an error.
 
+use half_callers::basics::ages_by_names_of_others;
 use half_uses::object::Object;
 use halfbrown::{HashMap, Refusal, Refused, RefusedKey};
 use json_value::{Error, Value};
 use std::alloc::Global;
 use std::fmt::Debug;
+use std::hash::RandomState;
 use std::io;
 use std::test::Fail;
 use test_support::asserts::assert_same;
@@ -92,6 +94,22 @@ fn an_io_error_has_the_text_of_its_reason(rt: HostRuntime) -> Result<(), Fail> {
             let text = format!(in rt.alloc(); "{error}")?;
             assert_same(text.as_str(), expected, "the text")?;
         }
+    }
+    Ok(())
+}
+
+#[test]
+fn names_of_others_are_hashed_at_random(rt: HostRuntime) -> Result<(), Fail> {
+    let mut ages = ages_by_names_of_others(&rt, rt.alloc())?;
+    add_forty(rt.alloc(), &mut ages)?;
+    assert_same(ages.is_map(), true, "more than a vector holds")?;
+    let held = ["0", "7", "39", "40"].map(|name| ages.get(name).copied());
+    assert_same(held, [Some(0), Some(7), Some(39), None], "the ages")
+}
+
+fn add_forty(alloc: Global, ages: &mut HashMap<String, u32, RandomState>) -> Result<(), Fail> {
+    for age in 0..40u32 {
+        ages.insert(format!(in alloc; "{age}")?, age)?;
     }
     Ok(())
 }
