@@ -8,7 +8,7 @@ use halfbrown::{Limit, LimitedHashMap};
 use std::alloc::{AllocError, Global};
 use std::hash::{BuildHasher, Hash};
 
-/// The sum of all amounts, how many are just this one, whether none is less, and the first that is not.
+/// The sum of all amounts, how many are just the least, whether none is below it, and the first that is not.
 pub fn summary<K: Eq + Hash, S: BuildHasher, L: Limit>(
     ledger: &LimitedHashMap<K, u64, S, L>,
     least: u64,

@@ -55,11 +55,11 @@ is_vec_for limit pairs = nat_le pairs limit
 abbrev pub is_vec_shrunk : ℕ → Bool → ℕ → Bool
 is_vec_shrunk limit is_vec pairs = is_vec || is_vec_for limit pairs
 
--- the capacity after `shrink_to_fit`: the least of the form then that is enough for these pairs
+-- the capacity after `shrink_to_fit`: the least that is enough for these pairs in the form that the map has then
 abbrev pub shrunk_capacity : ℕ → Bool → ℕ → ℕ
 shrunk_capacity limit is_vec pairs = least_capacity (is_vec_shrunk limit is_vec pairs) pairs
 
--- the capacity that is wanted for this many pairs: in a vector at most the limit
+-- the capacity that a reservation for this many pairs in all wants: their number, but in a vector at most the limit
 abbrev pub wanted_capacity : ℕ → Bool → ℕ → ℕ
 wanted_capacity limit is_vec pairs = if is_vec then min pairs limit else pairs
 

@@ -12,7 +12,7 @@ use Rattle.halfbrown.specs.Pairs.{holds}
 abbrev pub capacity_for_growth : {K V S : Type 0} → State K V S → Option ℕ
 capacity_for_growth m = if nat_lt (length m.pairs) m.capacity then None else Some (length m.pairs + 1)
 
--- the capacity that a reservation for this many pairs more needs
+-- the capacity that a reservation for this many pairs more needs: that which is wanted, if it is more than there is
 abbrev pub capacity_for_reserve : {K V S : Type 0} → ℕ → State K V S → ℕ → Option ℕ
 capacity_for_reserve limit m additional = capacity_needed m.capacity (wanted_capacity limit m.is_vec (length m.pairs + additional))
 
@@ -37,7 +37,7 @@ module _ {K V S : Type 0} (limit : ℕ) where
   abbrev pub capacity_for_new_key : State K V S → Option ℕ
   capacity_for_new_key m = if is_full m then Some (limit + 1) else capacity_for_growth m
 
-  -- the capacity that an insertion of k needs: that of a new key, or, if k is held, only that of a full vector
+  -- the capacity that an insertion of k needs: limit + 1 in a full vector, otherwise one more than are held if k is new and no capacity is left
   abbrev pub capacity_for_insert : (K → K → Bool) → State K V S → K → Option ℕ
   capacity_for_insert eq m k = if is_full m then Some (limit + 1) else (if holds eq m.pairs k then None else capacity_for_growth m)
 
