@@ -12,5 +12,5 @@ abbrev pub pairs_of : List ℕ → List (ℕ × ℕ)
 pairs_of keys = map (λ key. (key, key)) keys
 
 -- a table of these pairs and this capacity; of the other state no cost depends on anything
-abbrev pub table_in : State ℕ ℕ ℕ → List (ℕ × ℕ) → ℕ → State ℕ ℕ ℕ
-table_in any pairs capacity = state_with any false pairs capacity any.builder
+abbrev pub some_table : State ℕ ℕ ℕ → List (ℕ × ℕ) → ℕ → State ℕ ℕ ℕ
+some_table any pairs capacity = state_with any false pairs capacity any.builder

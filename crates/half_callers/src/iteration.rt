@@ -8,21 +8,12 @@ use halfbrown::{Limit, LimitedHashMap};
 use std::alloc::{AllocError, Global};
 use std::hash::{BuildHasher, Hash};
 
-/// The sum of all amounts, how many are just the least, whether none is below it, and the first that is not.
-pub fn summary<K: Eq + Hash, S: BuildHasher, L: Limit>(
-    ledger: &LimitedHashMap<K, u64, S, L>,
-    least: u64,
-) -> (u64, usize, bool, Option<u64>)
+/// The sum of all amounts.
+pub fn total<K: Eq + Hash, S: BuildHasher, L: Limit>(ledger: &LimitedHashMap<K, u64, S, L>) -> u64
     requires { sum (values_of ledger.now.pairs) < 2 ^ 64 }
-    ensures sum { result.0 ≡ sum (values_of ledger.now.pairs) }
-    ensures count { result.1 ≡ count_by (λ amount. amount == least) (values_of ledger.now.pairs) }
-    ensures all { result.2 ≡ list_all (nat_le least) (values_of ledger.now.pairs) }
-    ensures first { result.3 ≡ find (nat_le least) (values_of ledger.now.pairs) }
+    ensures { result ≡ sum (values_of ledger.now.pairs) }
 {
-    let count = ledger.values().filter(|amount| **amount == least).count();
-    let are_all_at_least = ledger.values().all(|amount| *amount >= least);
-    let first = ledger.values().copied().find(|amount| *amount >= least);
-    (ledger.values().sum(), count, are_all_at_least, first)
+    ledger.values().sum()
 }
 
 /// The sum of all amounts, in a loop over the pairs.
@@ -37,6 +28,36 @@ pub fn total_by_pairs<K: Eq + Hash, S: BuildHasher, L: Limit>(
         total += *amount;
     }
     total
+}
+
+/// How many voted for the candidate.
+pub fn votes_for<K: Eq + Hash, S: BuildHasher, L: Limit>(
+    votes: &LimitedHashMap<K, u64, S, L>,
+    candidate: u64,
+) -> usize
+    ensures { result ≡ count_by (λ vote. vote == candidate) (values_of votes.now.pairs) }
+{
+    votes.values().filter(|vote| **vote == candidate).count()
+}
+
+/// Whether all amounts are at least this one.
+pub fn are_all_at_least<K: Eq + Hash, S: BuildHasher, L: Limit>(
+    ledger: &LimitedHashMap<K, u64, S, L>,
+    least: u64,
+) -> bool
+    ensures { result ≡ list_all (nat_le least) (values_of ledger.now.pairs) }
+{
+    ledger.values().all(|amount| *amount >= least)
+}
+
+/// The first amount that is at least this one.
+pub fn first_at_least<K: Eq + Hash, S: BuildHasher, L: Limit>(
+    ledger: &LimitedHashMap<K, u64, S, L>,
+    least: u64,
+) -> Option<u64>
+    ensures { result ≡ find (nat_le least) (values_of ledger.now.pairs) }
+{
+    ledger.values().copied().find(|amount| *amount >= least)
 }
 
 /// The keys of the amounts above the least, in order.

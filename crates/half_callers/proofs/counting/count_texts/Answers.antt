@@ -1,4 +1,4 @@
-use Rattle.std.proofs.Common.{◌+◌, arith, rules}
+use Rattle.std.proofs.Common.{◌+◌, [], arith, rules}
 use Rattle.std.proofs.lemmas.Grind.{common_steps}
 use Rattle.halfbrown.proofs.callers.Texts.{count_text_fits, counted_text_step}
 use Rattle.half_callers.proofs.counting.count_texts.Goals as goal
@@ -9,4 +9,4 @@ overflow_add-counts c = grind (arith, common_steps, count_text_fits (λ word. wo
 pub loop-word-preserved : goal.loop-word-preserved
 loop-word-preserved c =
     let puts = c.in_ok-counts.ensures.makes.writes.puts (c.or_insert.result.now + 1) in
-    search (rules, counted_text_step (λ word. word.now) c.args.words.now _ c.loop-word-item.result c.loop-word.invariant puts)
+    search (rules, counted_text_step (λ word. word.now) _ _ (record { ref_ptr = (0, 0); now = [] }) c.loop-word.invariant puts)
