@@ -52,7 +52,10 @@ impl<R: Print, K: Named, V: Number, S: Ruled, L: Limit> Player<'_, R, K, V, S, L
     }
 
     fn insert_key(&mut self, key: K) -> Answered<Answer> {
-        Ok(said("was").key(&found(&mut self.a, &key)?.insert_key(key)))
+        Ok(match self.a.raw_entry_mut()?.from_key(&key) {
+            RawEntryMut::Occupied(mut entry) => said("was").key(&entry.insert_key(key)),
+            RawEntryMut::Vacant(_vacant) => said("vacant"),
+        })
     }
 
     // `and_modify` of a closure that adds the number to the value, and says what it was handed.
