@@ -1,7 +1,7 @@
 //! What callers build on iteration, proved from its public contracts only: sums and counts of what is held, and values that
 //! are all written.
 ghost use Rattle.std.specs.Prelude.{◌≡◌, ◌+◌, ◌^◌, ◌<◌, ◌==◌, count_by, filter, map, min, nat_le, nat_lt, sum, IfOk};
-ghost use Rattle.std.specs.List.{find, list_all};
+ghost use Rattle.std.specs.List.{find, list_all, list_any};
 ghost use Rattle.std.specs.Map.{keys_of, values_of};
 
 use halfbrown::{Limit, LimitedHashMap};
@@ -48,6 +48,16 @@ pub fn are_all_at_least<K: Eq + Hash, S: BuildHasher, L: Limit>(
     ensures { result ≡ list_all (nat_le least) (values_of ledger.now.pairs) }
 {
     ledger.values().all(|amount| *amount >= least)
+}
+
+/// Whether some amount is less than this one.
+pub fn is_any_below<K: Eq + Hash, S: BuildHasher, L: Limit>(
+    ledger: &LimitedHashMap<K, u64, S, L>,
+    least: u64,
+) -> bool
+    ensures { result ≡ list_any (λ amount. nat_lt amount least) (values_of ledger.now.pairs) }
+{
+    ledger.values().any(|amount| *amount < least)
 }
 
 /// The first amount that is at least this one.
