@@ -15,6 +15,7 @@ pub mod errors;
 pub mod first_example;
 pub mod guests;
 pub mod iteration;
+pub mod raw_entries;
 pub mod retained;
 pub mod texts;
 pub mod threads;

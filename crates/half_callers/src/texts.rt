@@ -1,12 +1,12 @@
 //! What callers say of texts: for every text, by its bytes, what a map of owned keys has.
-ghost use Rattle.std.specs.Prelude.{◌≡◌, ℕ, List, true, false, IfOk, OnOk, Some};
+ghost use Rattle.std.specs.Prelude.{◌≡◌, ℕ, List, true, false, IfOk, OnOk, Some, None, if◌then◌else◌};
 ghost use Rattle.std.specs.Str.{bytes_eq};
 ghost use Rattle.std.specs.String.{string_bytes};
 ghost use Rattle.halfbrown.specs.ByKey.{keyed_by};
-ghost use Rattle.halfbrown.specs.Pairs.{value_of};
+ghost use Rattle.halfbrown.specs.Pairs.{holds, value_of};
 ghost use Rattle.halfbrown.specs.Updates.{HasPut, HasRemoved};
 
-use halfbrown::{HashMap, Refusal};
+use halfbrown::{Entry, HashMap, Refusal};
 use std::alloc::{AllocError, Global};
 
 /// Stores an age under a name. What each text has is said of all texts, also of those that are no key.
@@ -59,6 +59,20 @@ pub fn forget_named(ages: &mut HashMap<String, u32>, name: &str) -> usize
     let before = ages.len();
     ages.remove(name);
     before - ages.len()
+}
+
+/// The name, where it is not held: its entry, which is not used, hands it back.
+pub fn free_name<'a>(
+    ages: &mut HashMap<&'a str, u32>,
+    name: &'a str,
+) -> Result<Option<&'a str>, Refusal>
+    ensures { IfOk result (λ free. free
+        ≡ (if holds (λ one other. bytes_eq one.now other.now) ages.old.pairs name.entry then None else Some name.entry)) }
+{
+    match ages.entry(name)? {
+        Entry::Occupied(_occupied) => Ok(None),
+        Entry::Vacant(vacant) => Ok(Some(vacant.into_key())),
+    }
 }
 
 /// All pairs, in a list.

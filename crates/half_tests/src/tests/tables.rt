@@ -77,6 +77,7 @@ fn assert_at_home(table: &Table) -> Result<(), Fail> {
 // one more path on which its drop is proved.
 #[derive(Clone, Copy)]
 enum Step {
+    Add(u64),
     // The entry index and the hash.
     Remove(usize, u64),
     Reserve(usize),
@@ -90,10 +91,11 @@ enum Step {
     Probed(u64, usize, u64),
 }
 
-use Step::{AtHome, Found, HasCapacity, MakeAnew, Probed, Remove, Reserve, Searched};
+use Step::{Add, AtHome, Found, HasCapacity, MakeAnew, Probed, Remove, Reserve, Searched};
 
 fn play_step(alloc: Global, table: &mut Table, step: Step) -> Result<(), Fail> {
     match step {
+        Add(hash) => add(alloc, table, hash),
         Remove(index, hash) => remove(table, index, hash),
         Reserve(needed) => reserve(alloc, table, needed),
         MakeAnew(needed) => make_anew(alloc, table, needed),
@@ -244,4 +246,35 @@ fn a_removal_brings_a_pair_home(rt: HostRuntime) -> Result<(), Fail> {
     // Of eight buckets 1 is the home of 1 and 9. The pair of 3 has its home, and stays.
     let steps = [Remove(0, 1), Found(9, 1, 1, 1), Found(3, 0, 3, 1)];
     play(rt.alloc(), 5, &[1, 9, 3], &steps)
+}
+
+#[test]
+fn a_removal_of_a_copy_leaves_the_table(rt: HostRuntime) -> Result<(), Fail> {
+    let mut table = table_of(rt.alloc(), 0, &[6, 14, 7, 15, 0])?;
+    let mut copy = table.memory_alike()?.into_copy_of(&table);
+    let steps = [Remove(1, 14), Found(15, 3, 0, 2), Found(0, 1, 1, 2)];
+    play_steps(rt.alloc(), &mut copy, &steps)?;
+    let steps = [Found(15, 3, 1, 3), Found(0, 4, 2, 3)];
+    play_steps(rt.alloc(), &mut table, &steps)
+}
+
+#[test]
+fn eight_buckets_sixteen_and_eight(rt: HostRuntime) -> Result<(), Fail> {
+    let steps = [
+        // All of home 7.
+        Found(47, 5, 4, 6),
+        // Of homes 7, 15, 7, 15, 7 and 15.
+        Reserve(7),
+        Found(47, 5, 1, 3),
+        // In bucket 10.
+        Add(55),
+        Probed(71, 11, 5),
+        // Those of 39 and 55 move back.
+        Remove(2, 23),
+        Found(39, 4, 8, 2),
+        Found(55, 2, 9, 3),
+        MakeAnew(6),
+        Found(47, 5, 4, 6),
+    ];
+    play(rt.alloc(), 0, &[7, 15, 23, 31, 39, 47], &steps)
 }
