@@ -6,6 +6,7 @@ import os
 import pathlib
 import re
 import subprocess
+import tempfile
 import threading
 import time
 
@@ -159,6 +160,14 @@ def streams_that_are_closed_or_full():
         Run(out).ends(b"", b"")
     for given in ("<&-", "</"):
         Run(given).ends(b"", b"", status=1)
+
+
+def a_device_that_is_full_in_the_middle():
+    """The answers so far are written out while a line of a file is answered."""
+    with tempfile.NamedTemporaryFile() as lines:
+        lines.write(b"\n" * 8192)
+        lines.flush()
+        Run(f"<{lines.name} >/dev/full").ends(b"", b"", status=1)
 
 
 def a_reader_that_goes_away():
