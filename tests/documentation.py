@@ -73,7 +73,7 @@ def named(page, tree):
 
 
 def readme(page):
-    """The first example, which is proved in half_callers with its clause, and what halfmap answers."""
+    """The first example, which is proved in half_callers with its clause, what halfmap answers, and a crate of one's own."""
     proved = re.search(r"^ghost use.*?^}\n", *texts("half_callers/src/first_example.rt"), re.M | re.S)[0]
     shown = [code for kind, code in FENCED.findall(page) if kind == "rust"]  # It is plain, and its clause is told below.
     contract = re.compile(r"^ghost use .*\n\n?|^    (ensures .*)\n", re.M)
@@ -83,6 +83,13 @@ def readme(page):
     lines, last, answers = re.search(run, page, re.M).groups()
     ran = subprocess.run(["env", HALFMAP], input=lines.replace("\\n", "\n"), capture_output=True, text=True)
     yield "the answers of halfmap", ran.stdout.splitlines()[-int(last) :] == answers.replace("    ", "").splitlines()
+    with tempfile.TemporaryDirectory() as folder:
+        copy, empty = tools.copy_sources(pathlib.Path(folder, "copy"), tools.crates_of("halfbrown")), pathlib.Path(folder, "empty")
+        empty.mkdir()
+        # It reads the crates as `rt run` does, and proves nothing.
+        lines = re.search(r"^From an empty folder.*\n\n((?:    .*\n)+)", page, re.M)[1].replace("rt run", "rt expand")
+        said = tools.said_by(["bash", "-ec", f"{lines}\necho It ends."], cwd=empty, env={**os.environ, "HALFBROWN": str(copy)})
+    yield "the lines for a crate of one's own", "It ends.\n" in said
 
 
 def packed(text):

@@ -72,7 +72,8 @@ class Part(threading.Thread):
         nice = "" if MODE != "test" or self.name in ("proofs", "build of witness") else "renice -n 10 $$ >/dev/null; "
         errors = None if self.name == "proofs" else subprocess.STDOUT
         streams = {"stdin": subprocess.DEVNULL, "stdout": subprocess.PIPE, "stderr": errors, "text": True, "errors": "replace"}
-        self.process = subprocess.Popen(nice + self.command, shell=True, start_new_session=True, **streams)
+        # In no session of its own: Linux shares processors among sessions alike, whatever their niceness.
+        self.process = subprocess.Popen(nice + self.command, shell=True, process_group=0, **streams)
         lines = []
         for line in self.process.stdout:
             lines.append(line)

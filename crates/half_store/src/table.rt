@@ -178,12 +178,10 @@ impl Table {
     {
         of_either_size!(&mut self.buckets, buckets => {
             let last = self.hashes.len() - 1;
-            let last_bucket = if index == last {
-                bucket
-            } else {
-                bucket_of(buckets, self.hashes.as_slice(), last, tally)
-            };
-            buckets.set_word(last_bucket, index + 1);
+            if index != last {
+                let last_bucket = bucket_of(buckets, self.hashes.as_slice(), last, tally);
+                buckets.set_word(last_bucket, index + 1);
+            }
             let hash = self.hashes.swap_remove(index);
             backward_shift(buckets, self.hashes.as_slice(), bucket, tally);
             hash
