@@ -3,6 +3,8 @@
 ghost use Rattle.std.specs.Prelude.{◌≡◌, ◌+◌, ◌^◌, ◌<◌, ◌==◌, count_by, filter, map, min, nat_le, nat_lt, sum, IfOk};
 ghost use Rattle.std.specs.List.{find, list_all, list_any};
 ghost use Rattle.std.specs.Map.{keys_of, values_of};
+ghost use Rattle.std.specs.Map.Iter.{deref_pair};
+ghost use Rattle.std.specs.Option.{option_map};
 
 use halfbrown::{Limit, LimitedHashMap};
 use std::alloc::{AllocError, Global};
@@ -68,6 +70,16 @@ pub fn first_at_least<K: Eq + Hash, S: BuildHasher, L: Limit>(
     ensures { result ≡ find (nat_le least) (values_of ledger.now.pairs) }
 {
     ledger.values().copied().find(|amount| *amount >= least)
+}
+
+/// The first pair whose amount is above the least.
+pub fn pair_above<K: Eq + Hash, S: BuildHasher, L: Limit>(
+    ledger: &LimitedHashMap<K, u64, S, L>,
+    least: u64,
+) -> Option<(&K, &u64)>
+    ensures { option_map deref_pair result ≡ find (λ pair. nat_lt least pair.1) ledger.now.pairs }
+{
+    ledger.iter().find(|pair| *pair.1 > least)
 }
 
 /// The keys of the amounts above the least, in order.
