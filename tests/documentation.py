@@ -31,7 +31,7 @@ SPAN = re.compile(r"`([^`]+)`")
 LINK = re.compile(r"\[[^\]]*\]\(((?!\w+://)[^)\s]+)\)")
 PATH = re.compile(r"[\w.-]+/[\w./-]*|[\w-]+\.(?:antt|c|edits|md|py|rt|sh|svg|txt)")
 IMPORT = re.compile(r"^ *(?:ghost )?use ([\w.:]*\w)(?:\.|::)\{(.*)\};?\n", re.M)
-CALLERS = ("half_callers/src/*.rt", "half_uses/s*/*.*", "json_value/src/*.rt", "half_callers/proofs/*/*/*.antt")
+CALLERS = ("half_c*/src/*.rt", "half_uses/s*/*.*", "json_value/src/*.rt", "half_callers/proofs/*/*/*.antt")
 COPIED = "half_store halfbrown half_set half_serde half_uses json_value".split()
 USES = {  # The crates whose examples run, and what their tests import.
     "halfbrown": "use halfbrown::{run::run, *}; use std::hash::{BuildHasher, RandomState}; use std::test::Fail;",
@@ -73,8 +73,8 @@ def named(page, tree):
 
 
 def readme(page):
-    """The first example, which is proved in half_callers with its clause, what halfmap answers, and a crate of one's own."""
-    proved = re.search(r"^ghost use.*?^}\n", *texts("half_callers/src/first_example.rt"), re.M | re.S)[0]
+    """The first example, which is proved in half_conditions with its clause, what halfmap answers, and a crate of one's own."""
+    proved = re.search(r"^ghost use.*?^}\n", *texts("half_conditions/src/first_example.rt"), re.M | re.S)[0]
     shown = [code for kind, code in FENCED.findall(page) if kind == "rust"]  # It is plain, and its clause is told below.
     contract = re.compile(r"^ghost use .*\n\n?|^    (ensures .*)\n", re.M)
     told = all(f"`{clause}`" in page for clause in contract.findall(proved) if clause)

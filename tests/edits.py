@@ -14,8 +14,9 @@ tests/edits/CRATE/PATH.edits has those of crates/CRATE/src/PATH.rt, each below a
 The last is for edits that refuse memory, since no contract says that it is found; that do work past the count, in a call with
 no tally or with another one; that drop in another way; or that print another debug form. A comment gives any other reason.
 
-The crates are proved first, if out/ lacks that. Several edits are planted in one copy of the sources if each shows in a place
-of its own. One that does not show there is tried by itself.
+The crates that have most of them are proved first, if out/ lacks that, since a check begins with what was proved. Meanwhile
+those are tried that a test finds. Several edits are planted in one copy of the sources if each shows in a place of its own. One
+that does not show there is tried by itself.
 """
 
 import os
@@ -26,7 +27,7 @@ import subprocess
 import sys
 import tempfile
 import time
-from concurrent.futures import ThreadPoolExecutor, as_completed
+from concurrent.futures import FIRST_COMPLETED, ThreadPoolExecutor, wait
 
 import found_by
 import refused_by
@@ -37,6 +38,8 @@ LINE = re.compile("(once|each|file|found by|refused by): ?(.*)")
 REMOVED, ADDED = re.compile(r"\[-(.*?)-\]"), re.compile(r"\{\+(.*?)\+\}")
 # What memory a check takes at most, and how many edits are tried in one.
 MEMORY, MOST_TOGETHER = 2_000_000_000, 24
+# The others have few edits: a check of the modules of these takes less than a proof of their crate.
+PROVED_FIRST = {"half_store": "lib", "halfbrown": "lib", "halfmap": "check"}
 
 
 class Edit:
@@ -111,11 +114,43 @@ def attempt(edits):
     return found, (time.monotonic() - began) / len(edits)
 
 
-def prove(crate):
-    """Proves a crate if out/ lacks that, and builds what the crates above it read."""
-    command = "check" if (tools.TOP / "crates" / crate / "src/main.rt").exists() else "lib"
-    if subprocess.run([tools.TESTS / "prove.sh", crate, command]).returncode:
-        sys.exit("0 passed, 1 failed")
+def prove(edits):
+    """Proves the crates that these edits need, with two jobs, since more of them do the same work several times."""
+    needed = {name for it in edits for name in tools.crates_of(it.crate)}
+    command = [word for it in PROVED_FIRST.items() if it[0] in needed for word in it]
+    return not edits or not subprocess.run([tools.TESTS / "prove.sh", *command], env=os.environ | {"JOBS": "2"}).returncode
+
+
+def largest_first(batches):
+    """So that no long one is the last. Those that run the tests of all crates take longest, whatever their number."""
+    return sorted(batches, key=lambda batch: (batch[0].tried_by != "coverage.py", -len(batch)))
+
+
+def try_all(edits, lanes):
+    """Tries these edits, and returns for each what is wrong, or None."""
+    told = []
+    found_by_tests, refused = ([it for it in edits if bool(it.found_by) == is_found] for is_found in (True, False))
+    with ThreadPoolExecutor(lanes) as pool, ThreadPoolExecutor(1) as prover:
+        proof = prover.submit(prove, refused)
+        tried = {proof: None} | {pool.submit(attempt, it): it for it in largest_first(in_batches(found_by_tests))}
+        while tried:
+            for done in wait(tried, return_when=FIRST_COMPLETED).done:
+                batch = tried.pop(done)
+                if done == proof:
+                    if not done.result():
+                        pool.shutdown(cancel_futures=True)
+                        sys.exit("0 passed, 1 failed")
+                    tried |= {pool.submit(attempt, it): it for it in largest_first(in_batches(refused))}
+                    continue
+                found, seconds = done.result()
+                for edit, (passes, why) in zip(batch, found):
+                    if not passes and len(batch) > 1:
+                        tried[pool.submit(attempt, [edit])] = [edit]
+                        continue
+                    how = "FAILED" if not passes else "found" if edit.found_by else "refused"
+                    told.append(None if passes else f"{edit}: {why}")
+                    print(f"{len(told)} of {len(edits)}, {edit}: {how}, {seconds:.0f} s: {why[:180]}", flush=True)
+    return told
 
 
 def main(words):
@@ -124,27 +159,10 @@ def main(words):
     edits = [it for it in known if not words or any(word in str(it) for word in words)]
     if not edits:
         sys.exit("\n".join([*map(str, known), f"none of these edits has {' or '.join(words)} in its path or name"]))
-    refused = {it.crate for it in edits if not it.found_by}
-    for crate in tools.crates_of():
-        if crate in refused:
-            prove(crate)
-    # Those that are built take longest.
-    batches, alone, told = in_batches(sorted(edits, key=lambda it: not it.found_by)), [], []
     memory = 1024 * int(re.search(r"MemAvailable:\s+(\d+)", pathlib.Path("/proc/meminfo").read_text())[1])
-    lanes, began = max(1, min(len(os.sched_getaffinity(0)), memory // MEMORY, len(batches))), time.monotonic()
+    lanes, began = max(1, min(len(os.sched_getaffinity(0)), memory // MEMORY, len(edits))), time.monotonic()
     (tools.TOP / "out").mkdir(exist_ok=True)
-    with ThreadPoolExecutor(lanes) as pool:
-        for together in (batches, alone):
-            tried = {pool.submit(attempt, batch): batch for batch in together}
-            for done in as_completed(tried):
-                found, seconds = done.result()
-                for edit, (passes, why) in zip(tried[done], found):
-                    if not passes and len(found) > 1:
-                        alone.append([edit])
-                        continue
-                    how = "FAILED" if not passes else "found" if edit.found_by else "refused"
-                    told.append(None if passes else f"{edit}: {why}")
-                    print(f"{len(told)} of {len(edits)}, {edit}: {how}, {seconds:.0f} s: {why[:180]}", flush=True)
+    told = try_all(edits, lanes)
     print(f"{len(edits)} edits, {lanes} at a time: {(time.monotonic() - began) / 60:.1f} minutes")
     tools.end(told)
 

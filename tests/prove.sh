@@ -3,10 +3,12 @@
 #
 #   tests/prove.sh                     proves half_store, halfbrown and halfmap, and builds halfmap
 #   tests/prove.sh CRATE COMMAND ..    rt's command `lib`, `check` or `run` for each crate
+#
+# JOBS says how many jobs a proof has, if not one for each processor, up to four.
 set -u
 cd "$(dirname "$0")/../crates" || exit 1
 began=$(date +@%s.%N)
-jobs=$(nproc)
+jobs=${JOBS:-$(nproc)}
 [ "$jobs" -le 4 ] || jobs=4
 log=$(mktemp) || exit 1
 trap 'rm -f "$log"' EXIT

@@ -1,10 +1,9 @@
-//! What callers build on the map, the first example, and worked tables in numbers: proved from public contracts only.
+//! What callers build on the map, and worked tables in numbers: proved from public contracts only.
 #![tactic(auto)]
 
 pub mod basics;
 pub mod by_index;
 pub mod collections;
-pub mod conditions;
 pub mod copies;
 pub mod costs;
 pub mod counting;
@@ -12,7 +11,6 @@ pub mod drains;
 pub mod entries;
 pub mod equality;
 pub mod errors;
-pub mod first_example;
 pub mod guests;
 pub mod iteration;
 pub mod raw_entries;

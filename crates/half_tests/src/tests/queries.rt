@@ -1,6 +1,6 @@
 //! Look-ups by a text or a slice that has no owner, for each type of key: in a vector and in a table.
 
-use half_callers::conditions::by_index;
+use half_conditions::by_index;
 use halfbrown::{Equivalent, SizedHashMap};
 use std::alloc::{AllocError, Global};
 use std::borrow::{CowSlice, CowStr};

@@ -3,7 +3,7 @@
 
 use super::items::{Item, Told};
 use super::uses::assert_collected;
-use half_callers::conditions::by_index;
+use half_conditions::by_index;
 use half_callers::drains::take_first;
 use halfbrown::{
     DefaultHashBuilder, Entry, HashMap, Limit, LimitedHashMap, RawEntryMut, Refusal, SizedHashMap,

@@ -1,5 +1,8 @@
-//! Callers of calls that have a condition, each of which finds it met before it calls. An edit of `must-fail` takes that away in
-//! each, and the prover refuses it.
+//! The first example, and callers of calls that have a condition, each of which finds it met before it calls. An edit of
+//! `must-fail` takes that away in each, and the prover refuses it. The crate is small, since all of it is proved for each edit.
+#![tactic(auto)]
+
+pub mod first_example;
 
 use halfbrown::{DefaultHashBuilder, Equivalent, HashMap, RawEntryMut, Refusal, SizedHashMap};
 use std::hash::{BuildHasher, Hash};
