@@ -28,7 +28,7 @@ PARTS = [
     ("tp", "must not compile", None, "tests/must_not_compile.py"),
     ("tp", "copied uses", None, "tests/copied_uses.py"),
     ("tpc", "random run", "build of witness", "tests/random_run.py"),
-    ("tpc", "documentation", "build of halfmap", "tests/documentation.py"),
+    ("tp", "documentation", "build of halfmap", "tests/documentation.py"),
     ("tpc", "scripts", "build of witness", "tests/scripts.py"),
     ("tp", "halfmap", "proofs", "env -u HALFMAP tests/halfmap.py"),
     ("tc", "unproved halfmap", "build of halfmap", "tests/halfmap.py"),
