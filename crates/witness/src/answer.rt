@@ -119,13 +119,15 @@ impl<K: Named, V: Number> From<Refused<K, V>> for Answer {
 
 impl fmt::Debug for Answer {
     fn fmt<W: fmt::Write>(&self, f: &mut fmt::Formatter<W>) -> fmt::Result {
-        let words = self.words;
-        let gap = if words.is_empty() { "" } else { " " };
-        match (self.key, self.value) {
-            (Some(key), Some(value)) => write!(f, "{words}{gap}{key}={value}"),
-            (Some(key), None) => write!(f, "{words}{gap}{key}"),
-            (None, Some(value)) => write!(f, "{words}{gap}{value}"),
-            (None, None) => write!(f, "{words}"),
+        f.write_str(self.words)?;
+        let gap = if self.words.is_empty() { "" } else { " " };
+        if let Some(key) = self.key {
+            write!(f, "{gap}{key}")?;
         }
+        if let Some(value) = self.value {
+            let gap = if self.key.is_some() { "=" } else { gap };
+            write!(f, "{gap}{value}")?;
+        }
+        Ok(())
     }
 }
