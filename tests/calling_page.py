@@ -16,9 +16,10 @@ TYPES = {"halfbrown": "LimitedHashMap", "half_set": "HashSet", "json_value": "Va
 # No clause or field of such a name is printed, and no starred clause.
 LEFT_OUT = re.compile(r"(?:(?:requires|ensures) ?)?(?:\*|(?:cost|keeps|runs|same_map|small|valid|values_run)\b)")
 # Such a word is not printed: a line by hand says in short what it says, or no caller has to know it.
-NOT_OPENED = """ArePairClones ClonesAreCopies ClonesEqualKeys Collects CollectsIter CollectIterRefused HashesAlike InsertsAll
-    InsertsUntilRefused IsDefaultBuilder IsGrantable IsRefusal PutsNewKeyOrHandsBack PutsOrHandsBackWithIndex SameEntry
-    ShiftRemoves ShrinkingNeedsMemory State WithPairs""".split()
+NOT_OPENED = """ArePairClones ClonesAreCopies ClonesEqualKeys CollectIterRefused Collects CollectsIter Extends HashesAlike
+    HasSetBy InsertsAll InsertsAllOfIter InsertsUntilRefused IsCloneOf IsDefaultBuilder IsEmptyFor IsGrantable IsNew
+    IsRefusal IsReserved IsShrunk ModifiesEntry PutsNewKeyOrHandsBack PutsOrHandsBackWithIndex SameEntry
+    ShiftRemoves ShrinkingNeedsMemory ShrinksOrStays State WithPairs""".split()
 DEFINITION = re.compile(
     r"^((?: *--.*\n)*)( *)(pub record|pub data|abbrev pub|unfoldable pub) (\w+)(.*)\n((?:\2 +\S.*\n|\2\4 .*\n)*)", re.M
 )
