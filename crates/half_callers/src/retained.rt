@@ -1,6 +1,7 @@
 //! What callers build on `retain`, proved from its public contract only: a stock from which what is sold out goes, and prices
-//! that are halved.
-ghost use Rattle.std.specs.Prelude.{◌≡◌, ◌/◌, nat_le, filter, map};
+//! that are doubled.
+ghost use Rattle.std.specs.Prelude.{◌≡◌, ◌*◌, ◌^◌, ◌<◌, nat_le, filter, map};
+ghost use Rattle.std.specs.List.{All};
 
 use halfbrown::{Limit, LimitedHashMap};
 use std::hash::{BuildHasher, Hash};
@@ -18,15 +19,16 @@ pub fn keep_from<K: Eq + Hash + Drop, S: BuildHasher, L: Limit>(
     stock.retain(|_, count| least <= *count);
 }
 
-/// Halves each price.
-pub fn halve_all<K: Eq + Hash + Drop, S: BuildHasher, L: Limit>(
+/// Doubles each price. Each is small enough.
+pub fn double_all<K: Eq + Hash + Drop, S: BuildHasher, L: Limit>(
     prices: &mut LimitedHashMap<K, u64, S, L>,
 )
-    ensures halved { prices.new.pairs ≡ map (λ pair. (pair.0, pair.1 / 2)) prices.old.pairs }
+    requires small { All (λ pair. pair.1 < 2 ^ 63) prices.old.pairs }
+    ensures doubled { prices.new.pairs ≡ map (λ pair. (pair.0, pair.1 * 2)) prices.old.pairs }
     ensures form { prices.new.is_vec ≡ prices.old.is_vec }
 {
     prices.retain(|_, price| {
-        *price /= 2;
+        *price *= 2;
         true
     });
 }
