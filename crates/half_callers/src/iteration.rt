@@ -82,6 +82,26 @@ pub fn pair_above<K: Eq + Hash, S: BuildHasher, L: Limit>(
     ledger.iter().find(|pair| *pair.1 > least)
 }
 
+/// Whether the amount of each pair is at least this one.
+pub fn are_pairs_at_least<K: Eq + Hash, S: BuildHasher, L: Limit>(
+    ledger: &LimitedHashMap<K, u64, S, L>,
+    least: u64,
+) -> bool
+    ensures { result ≡ list_all (λ pair. nat_le least pair.1) ledger.now.pairs }
+{
+    ledger.iter().all(|(_, amount)| least <= *amount)
+}
+
+/// Whether the amount of some pair is above this one.
+pub fn is_pair_above<K: Eq + Hash, S: BuildHasher, L: Limit>(
+    ledger: &LimitedHashMap<K, u64, S, L>,
+    least: u64,
+) -> bool
+    ensures { result ≡ list_any (λ pair. nat_lt least pair.1) ledger.now.pairs }
+{
+    ledger.iter().any(|(_, amount)| least < *amount)
+}
+
 /// The keys of the amounts above the least, in order.
 pub fn keys_above<S: BuildHasher, L: Limit>(
     alloc: Global,
