@@ -3,8 +3,8 @@
 
 use super::items::{Item, Told};
 use super::uses::assert_collected;
-use half_conditions::by_index;
 use half_callers::drains::take_first;
+use half_conditions::by_index;
 use halfbrown::{
     DefaultHashBuilder, Entry, HashMap, Limit, LimitedHashMap, RawEntryMut, Refusal, SizedHashMap,
     hashmap,
