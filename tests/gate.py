@@ -18,8 +18,8 @@ LANES = threading.Semaphore(min(4, len(os.sched_getaffinity(0))))
 PROGRAMS = "witness", "halfmap", "json_at", "word_count"
 TESTED = "half_tests", "half_serde", "halfmap"
 ENTERED = " ".join(f"out/covered/{it}" for it in (*PROGRAMS, *(f"{it}_tests" for it in TESTED)))
-# In a copy of the tree as it is now, since `rt ci` leaves processors idle when crates wait for one another.
-EDITS = 'git ls-files -z | xargs -0 cp --parents -t "$FOLDER" && exec nice -n 10 "$FOLDER/tests/edits.py"'
+# These run in copies of the tree as it is now, since `rt ci` leaves processors idle when crates wait for one another.
+COPY = 'mkdir "$FOLDER/{0}" && git ls-files -z | xargs -0 cp --parents -t "$FOLDER/{0}" && exec nice -n 10 "$FOLDER/{0}/tests/{1}"'
 # The first letters of the modes that have a part, its name, what it waits for, and what it runs. The longest are first.
 PARTS = [
     ("t", "proofs", None, "tests/prove.sh && echo 3 passed, 0 failed"),
@@ -38,10 +38,10 @@ PARTS = [
     # Its tests are built when all is proved.
     ("p", "refused reads", None, "tests/refused_reads.py"),
     ("a", "rt ci", None, "rt ci"),
-    ("a", "edits", None, EDITS),
+    ("a", "covered", None, COPY.format("covered", "gate.sh") + " covered"),
+    ("a", "edits", None, COPY.format("edits", "edits.py")),
     ("a", "instructions", "rt ci", "tests/instructions.py"),
     ("a", "make test", "instructions", "tests/gate.sh proved"),
-    ("a", "covered", "make test", "tests/gate.sh covered"),
 ]
 
 
