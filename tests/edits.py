@@ -162,7 +162,8 @@ def main(words):
     if not edits:
         sys.exit("\n".join([*map(str, known), f"none of these edits has {' or '.join(words)} in its path or name"]))
     memory = 1024 * int(re.search(r"MemAvailable:\s+(\d+)", pathlib.Path("/proc/meminfo").read_text())[1])
-    lanes, began = max(1, min(len(os.sched_getaffinity(0)), memory // MEMORY, len(edits))), time.monotonic()
+    processors = int(os.environ.get("LANES") or len(os.sched_getaffinity(0)))
+    lanes, began = max(1, min(processors, memory // MEMORY, len(edits))), time.monotonic()
     (tools.TOP / "out").mkdir(exist_ok=True)
     told = try_all(edits, lanes)
     print(f"{len(edits)} edits, {lanes} at a time: {(time.monotonic() - began) / 60:.1f} minutes")
