@@ -132,8 +132,6 @@ def try_all(edits, lanes):
     found_by_tests, refused = ([it for it in edits if bool(it.found_by) == is_found] for is_found in (True, False))
     with ThreadPoolExecutor(lanes) as pool:
         proof = pool.submit(prove, refused)
-        # It has two jobs, and so two of the lanes.
-        pool.submit(proof.result if lanes > 1 else int)
         tried = {proof: None} | {pool.submit(attempt, it): it for it in largest_first(in_batches(found_by_tests))}
         while tried:
             for done in wait(tried, return_when=FIRST_COMPLETED).done:

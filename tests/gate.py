@@ -14,17 +14,17 @@ import time
 import tools
 
 MODE = sys.argv[1] if sys.argv[1:] else "test"
-PROCESSORS = len(os.sched_getaffinity(0))
-LANES = threading.Semaphore(int(os.environ.get("LANES") or min(4, PROCESSORS)))
+PROCESSORS = sorted(os.sched_getaffinity(0))
+LANES = threading.Semaphore(int(os.environ.get("LANES") or min(4, len(PROCESSORS))))
 PROGRAMS = "witness", "halfmap", "json_at", "word_count"
 TESTED = "half_tests", "half_serde", "halfmap"
 ENTERED = " ".join(f"out/covered/{it}" for it in (*PROGRAMS, *(f"{it}_tests" for it in TESTED)))
-# With two checks for each processor each took a fifth more of its time, by caches. So `rt ci` has one at a time for each but one,
-# with one job. The others run in copies of the tree as it is now, and have half of the processors.
-CI = f"RT_JOBS={max(1, PROCESSORS - 1)} rt ci"
+# With two checks for each processor a check takes a fifth more of one, by caches. So `rt ci` has all processors but one.
+CI = f"taskset -c {','.join(map(str, PROCESSORS[:-1] or PROCESSORS))} rt ci"
+# The others run in copies of the tree as it is now, on half as many processors.
 COPY = (
     'mkdir "$FOLDER/{0}" && git ls-files -z | xargs -0 cp --parents -t "$FOLDER/{0}" && '
-    f'exec env LANES={max(1, PROCESSORS // 2)} nice -n 10 "$FOLDER/{{0}}/tests/{{1}}"'
+    f'exec env LANES={max(1, len(PROCESSORS) // 2)} nice -n 10 "$FOLDER/{{0}}/tests/{{1}}"'
 )
 # The first letters of the modes that have a part, its name, what it waits for, and what it runs. The longest are first.
 PARTS = [
