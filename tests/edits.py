@@ -115,10 +115,10 @@ def attempt(edits):
 
 
 def prove(edits):
-    """Proves the crates that these edits need, with two jobs, since more of them do the same work several times."""
+    """Proves the crates that these edits need, with at most two jobs, since more of them do the same work several times."""
     needed = {name for it in edits for name in tools.crates_of(it.crate)}
     command = [word for it in PROVED_FIRST.items() if it[0] in needed for word in it]
-    return not edits or not subprocess.run([tools.TESTS / "prove.sh", *command], env=os.environ | {"JOBS": "2"}).returncode
+    return not edits or not subprocess.run([tools.TESTS / "prove.sh", *command], env={"JOBS": "2"} | os.environ).returncode
 
 
 def largest_first(batches):
@@ -160,8 +160,7 @@ def main(words):
     if not edits:
         sys.exit("\n".join([*map(str, known), f"none of these edits has {' or '.join(words)} in its path or name"]))
     memory = 1024 * int(re.search(r"MemAvailable:\s+(\d+)", pathlib.Path("/proc/meminfo").read_text())[1])
-    processors = int(os.environ.get("LANES") or len(os.sched_getaffinity(0)))
-    lanes, began = max(1, min(processors, memory // MEMORY, len(edits))), time.monotonic()
+    lanes, began = max(1, min(len(os.sched_getaffinity(0)), memory // MEMORY, len(edits))), time.monotonic()
     (tools.TOP / "out").mkdir(exist_ok=True)
     told = try_all(edits, lanes)
     print(f"{len(edits)} edits, {lanes} at a time: {(time.monotonic() - began) / 60:.1f} minutes")

@@ -14,17 +14,17 @@ import time
 import tools
 
 MODE = sys.argv[1] if sys.argv[1:] else "test"
-PROCESSORS = sorted(os.sched_getaffinity(0))
-LANES = threading.Semaphore(int(os.environ.get("LANES") or min(4, len(PROCESSORS))))
+PROCESSORS = len(os.sched_getaffinity(0))
+LANES = threading.Semaphore(min(4, PROCESSORS))
 PROGRAMS = "witness", "halfmap", "json_at", "word_count"
 TESTED = "half_tests", "half_serde", "halfmap"
 ENTERED = " ".join(f"out/covered/{it}" for it in (*PROGRAMS, *(f"{it}_tests" for it in TESTED)))
-# With two checks for each processor a check takes a fifth more of one, by caches. So `rt ci` has all processors but one.
-CI = f"taskset -c {','.join(map(str, PROCESSORS[:-1] or PROCESSORS))} rt ci"
-# The others run in copies of the tree as it is now, on half as many processors.
+# A check with two jobs takes an eighth more of the processors, and one beside more checks than there are processors a fifth. So
+# each has one job, and `rt ci` leaves a processor to the other parts, which run in copies of the tree as it is now.
+CI = f"RT_JOBS={max(1, PROCESSORS - 1)} rt ci"
 COPY = (
     'mkdir "$FOLDER/{0}" && git ls-files -z | xargs -0 cp --parents -t "$FOLDER/{0}" && '
-    f'exec env LANES={max(1, len(PROCESSORS) // 2)} nice -n 10 "$FOLDER/{{0}}/tests/{{1}}"'
+    'exec env JOBS=1 nice -n 10 "$FOLDER/{0}/tests/{1}"'
 )
 # The first letters of the modes that have a part, its name, what it waits for, and what it runs. The longest are first.
 PARTS = [
