@@ -31,7 +31,7 @@ SPAN = re.compile(r"`([^`]+)`")
 LINK = re.compile(r"\[[^\]]*\]\(((?!\w+://)[^)\s]+)\)")
 PATH = re.compile(r"[\w.-]+/[\w./-]*|[\w-]+\.(?:antt|c|edits|md|py|rt|sh|svg|txt)")
 IMPORT = re.compile(r"^ *(?:ghost )?use ([\w.:]*\w)(?:\.|::)\{(.*)\};?\n", re.M)
-CALLERS = ("half_c*/src/*.rt", "half_uses/s*/*.*", "json_value/src/*.rt", "half_callers/proofs/*/*/*.antt")
+CALLERS = ("half_c*/src/*.rt", "half_uses/s*/*.*", "json_value/src/*.rt", "half_callers/proofs/**/*.antt")
 COPIED = "half_store halfbrown half_set half_serde half_uses json_value".split()
 USES = {  # The crates whose examples run, and what their tests import.
     "halfbrown": "use halfbrown::{run::run, *}; use std::hash::{BuildHasher, RandomState}; use std::test::Fail;",

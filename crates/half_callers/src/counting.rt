@@ -10,7 +10,6 @@ use std::alloc::Global;
 use std::hash::Hash;
 
 /// How often each word stands among these. The words are held in order of their first occurrence.
-#[tactic(auto, using(halfbrown::proofs::callers::Keys::count_fits))]
 pub fn count_words<K: Eq + Hash + Copy>(
     alloc: Global,
     words: &[K],

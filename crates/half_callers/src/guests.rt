@@ -1,5 +1,7 @@
-//! A struct that keeps a fact of its map: its clone, and how serde reads it.
-ghost use Rattle.std.specs.Prelude.{◌≡◌, ◌<◌, ◌≤◌, length, IfOk, OnErr};
+//! Structs that keep a fact of their map: a clone, what serde reads, and a write by `get_mut`.
+ghost use Rattle.std.specs.Prelude.{◌≡◌, ◌≢◌, ◌+◌, ◌<◌, ◌≤◌, ◌^◌, ℕ, true, false, length, nat_eq, unwrap_or, Some, IfOk, OnErr};
+ghost use Rattle.std.proofs.Props.{props};
+ghost use Rattle.halfbrown.specs.Pairs.{holds, value_of};
 
 use halfbrown::HashMap;
 use serde::Deserialize;
@@ -46,5 +48,30 @@ impl TryFrom<Draft> for Guests {
             return Err("more guests than seats");
         }
         Ok(Guests { tables, seats })
+    }
+}
+
+/// How many there are of each good that is in stock: at least one.
+#[derive(Drop)]
+pub struct Stock {
+    counts: HashMap<u64, u64>,
+    ghost stocked: { (good : ℕ) → value_of nat_eq counts.pairs good ≢ Some 0 } by { Prim.hlevel props },
+}
+
+impl Stock {
+    /// Adds to the count of a good, and returns whether it is in stock.
+    pub fn add(&mut self, good: u64, more: u64) -> bool
+        requires { unwrap_or (value_of nat_eq self.old.counts.pairs good) 0 + more < 2 ^ 64 }
+        ensures held { result ≡ holds nat_eq self.old.counts.pairs good }
+        ensures added { result ≡ true → value_of nat_eq self.new.counts.pairs good
+            ≡ Some (unwrap_or (value_of nat_eq self.old.counts.pairs good) 0 + more) }
+        ensures others { (other : ℕ) → nat_eq good other ≡ false
+            → value_of nat_eq self.new.counts.pairs other ≡ value_of nat_eq self.old.counts.pairs other }
+    {
+        if let Some(count) = self.counts.get_mut(&good) {
+            *count += more;
+            return true;
+        }
+        false
     }
 }
