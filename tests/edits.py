@@ -38,7 +38,7 @@ LINE = re.compile("(once|each|file|found by|refused by): ?(.*)")
 REMOVED, ADDED = re.compile(r"\[-(.*?)-\]"), re.compile(r"\{\+(.*?)\+\}")
 # What memory a check takes at most, and how many edits are tried in one.
 MEMORY, MOST_TOGETHER = 2_000_000_000, 24
-# The others have few edits: the modules of these are checked from nothing.
+# The others have few edits: what these change is checked from nothing.
 PROVED_FIRST = {"half_store": "lib", "halfbrown": "lib", "halfmap": "check"}
 
 

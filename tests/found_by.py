@@ -6,7 +6,7 @@ A program takes half a minute to compile, so edits of one finder are planted in 
     the random run N, PART of CALL       the `answer`, `work`, `state` or `drops` of this call differs. No other edit of its N
                                          shows there, as who writes it sees
     scripts/FILE.txt                     a call of this script has an answer that is not wanted
-    the tests of half_tests              one fails
+    the tests of half_tests, MODULE::TEST    this one fails
     coverage.py FUNCTION                 it has more blocks that no test enters than the list has
     instructions.py ROW SIZE             the row takes more instructions than with nothing planted
     forbidden_code.py                    a rule is broken in the edit's file
@@ -63,11 +63,16 @@ def script_says(copy, edits):
 
 def tests_say(copy, edits):
     said = tools.said_by(["rt", "try", "--test", "--steps", "1"], cwd=copy / "crates/half_tests")
-    return re.sub(r"^(.* \.\.\. FAILED)$", rf"{edits[0].found_by}: \1", said, flags=re.M)
+    return re.sub(r"^test (.*) \.\.\. FAILED$", r"\1: it fails", said, flags=re.M)
 
 
 def coverage_says(copy, edits):
-    return "\n".join(re.findall(r"^.* never entered .*$", tools.said_by([copy / "tests/gate.sh", "covered"]), re.M))
+    """What the scripts and the tests of half_tests never enter. All of the functions that these edits change is entered there."""
+    programs = [copy / "covered" / it for it in ("witness", "half_tests")]
+    for name, how in (("witness", "covered"), ("half_tests", "tests")):
+        tools.said_by([copy / "tests/build_unproved.sh", name, copy / "covered" / name, how])
+    tools.said_by([copy / "tests/scripts.py"], env=os.environ | {"WITNESS": str(programs[0])})
+    return "\n".join(re.findall(r"^.* never entered .*$", tools.said_by([copy / "tests/coverage.py", *programs]), re.M))
 
 
 def forbidden_code_says(copy, edits):
@@ -120,7 +125,7 @@ FINDERS |= {"instructions.py": count_says, "forbidden_code.py": forbidden_code_s
 
 def mark_of(edit):
     """What finds an edit, and the places where it shows, or None if it is planted alone."""
-    finder, place = re.fullmatch(r"(the random run \d+|\w+\.py)?,? ?(.*)", edit.found_by).groups()
+    finder, place = re.fullmatch(r"(the random run \d+|the tests of \w+|\w+\.py)?,? ?(.*)", edit.found_by).groups()
     edit.mark = place or edit.place.replace("/", "/src/", 1)
     return finder or place, {edit.mark if finder else None}
 

@@ -47,7 +47,7 @@ PARTS = [
     ("a", "covered", None, COPY.format("covered", "gate.sh") + " covered"),
     ("a", "edits", None, COPY.format("edits", "edits.py")),
     ("a", "instructions", "rt ci", "tests/instructions.py"),
-    ("a", "make test", "instructions", "tests/gate.sh proved"),
+    ("a", "make test", "rt ci", "tests/gate.sh proved"),
 ]
 
 

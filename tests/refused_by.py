@@ -20,7 +20,20 @@ NO_NAME = re.compile(r"has no field|is not in scope|has no `|was not admitted|is
 UNREAD = re.compile(r"was rejected, (?:was|were) not checked")
 ENDS = "logic=proved", "logic=not-proved", "only="
 
-Function = collections.namedtuple("Function", "name file lines")
+INHERENT = re.compile(r"impl(?:<(.*)>)? (\w+)(?:<([\w', ]+)>)? \{")
+
+# A function's path is what a check calls it, or its module if it is a method of a trait, or of a type with known parameters.
+Function = collections.namedtuple("Function", "name path file lines")
+
+
+def path_of(name, indent, file, above):
+    """The path of the function of this name, with this indent, above which its file has these lines."""
+    module = file.removeprefix("src/").removesuffix(".rt").replace("/", "::")
+    if not indent:
+        return name if module in ("lib", "main") else f"{module}::{name}"
+    found = INHERENT.match(next((it for it in reversed(above) if it[:1].strip()), ""))
+    is_of_all = found and all(re.search(rf"\b{it}\b", found[1]) for it in re.findall(r"\w+", found[3] or ""))
+    return f"{found[2]}::{name}" if is_of_all else module
 
 
 def function_at(file, lines, at):
@@ -33,14 +46,15 @@ def function_at(file, lines, at):
     last = next((it for it in range(first, len(lines)) if is_end(lines[it])), len(lines))
     # A goal of a return is placed at the first attribute above the function, if there is one.
     attributes = [*itertools.takewhile(lambda line: line.lstrip().startswith("#["), lines[first - 1 :: -1] if first else [])]
-    return Function(name, file, range(first - len(attributes), last + 1)) if at <= last else None
+    path = path_of(name, indent, file, lines[:first])
+    return Function(name, path, file, range(first - len(attributes), last + 1)) if at <= last else None
 
 
 class Check:
-    """What a check says of the functions of these modules, or of the whole crate if there are none."""
+    """What a check says of the functions of these paths, or of the whole crate if there are none."""
 
-    def __init__(self, crate, modules=()):
-        said = tools.said_by(["rt", "check", "--jobs", "1", *(f"--only={it}" for it in modules)], cwd=crate)
+    def __init__(self, crate, paths=()):
+        said = tools.said_by(["rt", "check", "--jobs", "1", *(f"--only={it}" for it in paths)], cwd=crate)
         # A message may go on in indented lines.
         self.lines = re.sub(r"\n {2,}", " ", said).splitlines()
         told = [it for it in self.lines if ": error" in it or it.startswith("note: ")]
@@ -72,11 +86,11 @@ def judge(edits, copy):
     crate = copy / "crates" / edits[0].crate
     changed = [[it for it in edit.functions if it] for edit in edits]
     # The callers of what is changed cost time, and seldom say more.
-    modules = {it.file.removeprefix("src/").removesuffix(".rt").replace("/", "::") for it in sum(changed, [])}
-    check = Check(crate, modules)
+    paths = {it.path for it in sum(changed, [])}
+    check = Check(crate, paths)
     goals = [check.goal_of(it, edit.clause) for it, edit in zip(changed, edits)]
     if len(edits) == 1 and not goals[0]:
-        check = Check(crate) if modules else check
+        check = Check(crate) if paths else check
         goals = [check.goal_of(None, edits[0].clause)]
     lost = f"only a proof lost a name: {check.told[0][0]}" if check.told else "all is proved"
     return [(bool(goal), goal or check.unread or lost) for goal in goals]

@@ -1,5 +1,5 @@
-//! The first example, and callers of calls that have a condition, each of which finds it met before it calls. An edit of
-//! `must-fail` takes that away in each, and the prover refuses it. The crate is small, since all of it is proved for each edit.
+//! The first example, and callers of calls that have a condition, each of which finds it met before it calls. An edit in
+//! `tests/edits` takes that away in each, and the prover refuses it. The crate is small, so that this is quick.
 #![tactic(auto)]
 
 pub mod first_example;

@@ -30,8 +30,9 @@ impl Squares {
         }
     }
 
-    /// The square of a number, which is computed and stored where it is not known. The number is hashed once. Fails only where
-    /// the map needs memory for one square more, also where this one is known, and then nothing changes.
+    /// The square of a number, which is computed and stored where it is not known. The number is hashed once, and all known ones
+    /// when their map becomes a table. Fails only where the map needs memory for one square more, also where this one is known,
+    /// and then nothing changes.
     pub fn of(&mut self, n: u32) -> Result<u64, Refusal>
         ensures square { IfOk result (λ square. square ≡ n * n) }
         ensures stored { OnOk result (value_of nat_eq self.new.known.pairs n ≡ Some (n * n)) }
