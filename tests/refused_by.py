@@ -32,7 +32,7 @@ def path_of(name, indent, file, above):
     if not indent:
         return name if module in ("lib", "main") else f"{module}::{name}"
     found = INHERENT.match(next((it for it in reversed(above) if it[:1].strip()), ""))
-    is_of_all = found and all(re.search(rf"\b{it}\b", found[1]) for it in re.findall(r"\w+", found[3] or ""))
+    is_of_all = found and all(re.search(rf"\b{it}\b", found[1] or "") for it in re.findall(r"\w+", found[3] or ""))
     return f"{found[2]}::{name}" if is_of_all else module
 
 

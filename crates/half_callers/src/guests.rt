@@ -1,11 +1,11 @@
 //! Structs that keep a fact of their map: a clone, what serde reads, and a write by `get_mut`.
-ghost use Rattle.std.specs.Prelude.{◌≡◌, ◌≢◌, ◌+◌, ◌<◌, ◌≤◌, ◌^◌, ℕ, true, false, length, nat_eq, unwrap_or, Some, IfOk, OnErr};
+ghost use Rattle.std.specs.Prelude.{◌≡◌, ◌≢◌, ◌+◌, ◌<◌, ◌≤◌, ◌^◌, ℕ, [], true, false, length, nat_eq, unwrap_or, Some, IfOk, OnErr};
 ghost use Rattle.std.proofs.Props.{props};
 ghost use Rattle.halfbrown.specs.Pairs.{holds, value_of};
 
 use halfbrown::HashMap;
 use serde::Deserialize;
-use std::alloc::AllocError;
+use std::alloc::{AllocError, Global};
 
 /// The table of each guest. There are no more guests than seats.
 #[derive(Debug, Drop, PartialEq, Deserialize)]
@@ -59,12 +59,22 @@ pub struct Stock {
 }
 
 impl Stock {
-    /// Adds to the count of a good, and returns whether it is in stock.
+    /// A stock without goods.
+    pub fn new(alloc: Global) -> Stock
+        ensures { result.counts.pairs ≡ [] }
+    {
+        Stock {
+            counts: HashMap::new(alloc),
+        }
+    }
+
+    /// Adds to the count of a good, and returns whether it is in stock. If it is not, nothing is added.
     pub fn add(&mut self, good: u64, more: u64) -> bool
         requires { unwrap_or (value_of nat_eq self.old.counts.pairs good) 0 + more < 2 ^ 64 }
         ensures held { result ≡ holds nat_eq self.old.counts.pairs good }
         ensures added { result ≡ true → value_of nat_eq self.new.counts.pairs good
             ≡ Some (unwrap_or (value_of nat_eq self.old.counts.pairs good) 0 + more) }
+        ensures missing { result ≡ false → holds nat_eq self.new.counts.pairs good ≡ false }
         ensures others { (other : ℕ) → nat_eq good other ≡ false
             → value_of nat_eq self.new.counts.pairs other ≡ value_of nat_eq self.old.counts.pairs other }
     {
